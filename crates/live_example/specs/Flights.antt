@@ -13,7 +13,7 @@ pub record AreSame {B C : Type 0} (old new : List (SeatView B C)) : Type 0 where
 abbrev pub AreOfBoard : BoardView → List TicketView → Type 0
 AreOfBoard board tickets = All (IsOfBoard board) tickets
 
--- its receipts stand on this board
+-- its receipts are on this board
 pub record AreShown (board : BoardView) (flown : Flown) : Type 0 where
   pub guidance : AreOfBoard board flown.guidance
   pub thermal : AreOfBoard board flown.thermal

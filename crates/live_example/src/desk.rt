@@ -60,7 +60,7 @@ impl From<io::Error> for Stop {
 }
 
 impl Desk {
-    /// Makes a call. What it read stands in `out` then.
+    /// Makes a call. What it read is in `out` then.
     #[tactic(auto, using(tbl_live::proofs::SeatLemmas::still_app))]
     pub(crate) fn call<R: Wait>(
         &self,

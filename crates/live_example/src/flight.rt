@@ -237,7 +237,7 @@ fn fly_over<R: Threads + Wait + Sync>(
     })
 }
 
-/// Tells what each application read, and the receipts that stand on the board.
+/// Prints what each application read, and the receipts on the board.
 fn tell<R: Print + Wait>(rt: &R, board: &Board, flown: &Flown, rooms: &Rooms) -> Result<(), Stop>
     requires shown { AreShown board.now flown.now }
 {

@@ -6,7 +6,7 @@ use crate::applications::{LIMITS, Reads};
 use crate::desk::Stop;
 use tbl_live::{Board, Ticket};
 
-/// Tells how often an application read the limits.
+/// Prints how often an application read the limits.
 pub(crate) fn tell_reads<R: Print>(rt: &R, name: &str, reads: Option<Reads>) -> Result<(), Stop> {
     match reads {
         Some(Reads { whole, mixed }) => {
@@ -19,13 +19,13 @@ pub(crate) fn tell_reads<R: Print>(rt: &R, name: &str, reads: Option<Reads>) -> 
     Ok(())
 }
 
-/// Tells the limits that an application read last.
+/// Prints the limits that an application read last.
 pub(crate) fn tell_limits<R: Print>(rt: &R, name: &str, limits: &[u8; LIMITS]) -> Result<(), Stop> {
     println!(rt; "{name} reads in the end {limits:?}")?;
     Ok(())
 }
 
-/// Tells who called and with which status, by the receipts on the board.
+/// Prints who called and with which status, by the receipts on the board.
 pub(crate) fn tell_receipts<R: Print>(
     rt: &R,
     name: &str,

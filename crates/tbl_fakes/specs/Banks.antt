@@ -40,8 +40,8 @@ IsFromInside (write ∷ past) image = Torn write.span.at write.span.length write
 abbrev pub moment : Banking → ℕ
 moment bank = length bank.past
 
--- Since a moment, a reset may have left the bytes as they stand, or an image from inside a write since. What stands
--- between two writes is an image from inside the second.
+-- Since a moment, a reset may have left the bytes as they are, or an image from inside a write since. What is there between two writes is
+-- an image from inside the second.
 abbrev pub MayHaveLeft : Banking → ℕ → List ℕ → Type 0
 MayHaveLeft bank since image = (image ≡ bank.bytes) ⊎ IsFromInside (drop since bank.past) image
 
@@ -49,6 +49,6 @@ none_since : (past : List Passed) (image : List ℕ) → IsFromInside (drop (len
 none_since [] image inside = inside
 none_since (write ∷ past) image inside = none_since past image inside
 
--- since this moment there is nothing but the bytes as they stand
+-- since this moment there is nothing but the bytes as they are
 pub only_bytes : (bank : Banking) (image : List ℕ) → MayHaveLeft bank (moment bank) image → image ≡ bank.bytes
 only_bytes bank image left = elim left [ inl now ↦ now | inr inside ↦ absurd (none_since bank.past image inside) ]

@@ -1,4 +1,4 @@
--- Calls that are counted from 1, and fail where their number is listed.
+-- Calls that are counted from 1, and fail if their number is listed.
 use Rattle.std.specs.Prelude.{ℕ, Bool, List, ◌==◌}
 use Rattle.std.specs.List.{list_any}
 use Rattle.tbl_outside.specs.Counts.{risen}

@@ -3,7 +3,7 @@ use Rattle.std.specs.Prelude.{ℕ, ◌-◌, ◌==◌, List, Bool, false, Option,
 use Rattle.tbl_outside.specs.declared.stream.HowFar.{HowFar}
 use Rattle.tbl_fakes.specs.Calls.{Calls}
 
--- the bytes that are still to come, the reads, how many bytes come before each read fails, where that is so, and how far it was read
+-- the bytes that are still to come, the reads, how many bytes come before each read fails, if that is so, and how far it was read
 pub record Reading : Type 0 where
   pub left : List ℕ
   pub calls : Calls

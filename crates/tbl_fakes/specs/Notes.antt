@@ -24,7 +24,7 @@ has_room_for size notes = nat_lt 0 notes.left && nat_le size notes.room
 abbrev pub with_call : BankCall → ℕ → Noting → Noting
 with_call call size notes = record notes { calls = call ∷ notes.calls; left = notes.left - 1; room = notes.room - size }
 
--- one call more, which is left out where there is no room for it
+-- one call more, which is left out if there is no room for it
 abbrev pub noted : BankCall → Noting → Noting
 noted call notes = if has_room_for (room_of call) notes then with_call call (room_of call) notes else record notes { missed = true }
 

@@ -3,7 +3,7 @@ use Rattle.std.specs.Prelude.{◌≡◌, ℕ, Bool, ◌&&◌, nat_lt, nat_le, Li
 use Rattle.tbl_kinds.specs.Numbers.{patched}
 use Rattle.tbl_fakes.specs.declared.past.Span.{Span}
 
--- the ranges written, oldest first, the bytes that stood in each before, and the room that is left
+-- the ranges written, oldest first, the bytes that were in each before, and the room that is left
 pub record PastParts : Type 0 where
   pub spans : List Span
   pub olds : List ℕ
@@ -18,12 +18,12 @@ OldsKept spans olds = length olds ≡ sum_by (λ span. span.length) spans
 abbrev pub fits : PastParts → ℕ → Bool
 fits kept count = nat_lt 0 kept.writes && nat_le count kept.room
 
--- a write: the bytes as they stood before it, and its range
+-- a write: the bytes as they were before it, and its range
 pub record Passed : Type 0 where
   pub before : List ℕ
   pub span : Span
 
--- the bytes as they stood before the first of these writes, where these bytes stand after the last
+-- the bytes as they were before the first of these writes, if these are the bytes after the last
 abbrev pub undone : List Span → List ℕ → List ℕ → List ℕ
 undone [] olds bytes = bytes
 undone (span ∷ spans) olds bytes =

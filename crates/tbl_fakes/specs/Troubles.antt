@@ -61,7 +61,7 @@ abbrev pub how_ends : Option Break → Written
 how_ends None = Done
 how_ends (Some broken) = if broken.stop then Stopped else Failed
 
--- what is counted where it ends so
+-- what is counted if it ends so
 abbrev pub one_end : Option Break → Trouble → Trouble
 one_end None trouble = trouble
 one_end (Some broken) trouble = if broken.stop then one_stop trouble else one_fault trouble

@@ -56,7 +56,7 @@ impl Source for CalmSource {
     }
 }
 
-/// A sink that takes every piece, keeps nothing and tells nothing.
+/// A sink that takes every piece, keeps nothing and shows nothing.
 #[derive(Drop)]
 pub struct CalmSink;
 

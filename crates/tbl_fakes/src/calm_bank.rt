@@ -7,8 +7,8 @@ use std::marker::Model;
 use tbl_kinds::Memory;
 use tbl_outside::{Bank, Failed, Written};
 
-/// Preserved memory that never fails and is never stopped. It keeps no record, so it tells its bytes, and
-/// neither its moments nor its calls.
+/// Preserved memory that never fails and is never stopped. It keeps no record, so it shows its bytes, but neither its moments nor its
+/// calls.
 #[derive(Drop)]
 pub struct CalmBank {
     bytes: Vec<u8>,

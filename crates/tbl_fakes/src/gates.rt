@@ -90,8 +90,8 @@ impl Gate for MeetingGate {
     fn reading(&self, _actor: u8) {}
 }
 
-/// Application 1 waits, as it takes the bytes of a pinned image, until application 2 has played its first record; and application 2
-/// waits before that until application 1 takes bytes. So both come on only if no turn is held meanwhile.
+/// Application 1 waits, as it takes the bytes of a pinned image, until application 2 has played its first record; and application 2 waits
+/// before that until application 1 takes bytes. So both go on only if no turn is held meanwhile.
 #[derive(Drop)]
 pub struct ReadingGate {
     reading: AtomicBool,
@@ -146,7 +146,7 @@ impl Gate for ReadingGate {
     }
 }
 
-/// What a gate was told of the records of one actor.
+/// What a gate saw of the records of one actor.
 #[derive(Drop)]
 struct Tally {
     before: AtomicU32,
@@ -165,7 +165,7 @@ impl Tally {
         }
     }
 
-    /// Notes where a record came out of its order.
+    /// Notes that a record came out of its order.
     fn note_order(&self, is_due: bool) {
         if !is_due {
             self.is_out_of_order.store(true, Ordering::SeqCst);
@@ -196,7 +196,7 @@ impl Tally {
     }
 }
 
-/// What a gate was told of one actor.
+/// What a gate saw of one actor.
 #[derive(Clone, Copy)]
 pub struct Told {
     /// How many records were about to be played.
@@ -209,7 +209,7 @@ pub struct Told {
     pub is_in_order: bool,
 }
 
-/// Counts what it is told of each actor.
+/// Counts what it sees of each actor.
 #[derive(Drop)]
 pub struct CountingGate {
     /// In order of actors.
@@ -217,7 +217,7 @@ pub struct CountingGate {
 }
 
 impl CountingGate {
-    /// Nothing was told yet of the actors 0 to 16. An Err means out of memory.
+    /// Nothing was seen yet of the actors 0 to 16. An Err means out of memory.
     pub fn make(alloc: Global) -> Result<CountingGate, Memory> {
         let mut tallies = Vec::new(alloc);
         for _ in 0..ACTOR_COUNT {
@@ -226,7 +226,7 @@ impl CountingGate {
         Ok(CountingGate { tallies })
     }
 
-    /// What was told of each actor, in order of actors.
+    /// What was seen of each actor, in order of actors.
     pub fn told(&self, alloc: Global) -> Result<Vec<Told>, Memory> {
         let mut told = Vec::new(alloc);
         for tally in &self.tallies {

@@ -29,8 +29,8 @@ fn write_over(bytes: &mut Vec<u8>, at: usize, piece: &[u8])
     bytes[at..at + piece.len()].copy_from_slice(piece);
 }
 
-/// Preserved memory whose writes break off, and whose reads fail, where their number says so. It keeps a record of its
-/// writes with what stood before them, from which its moments are told, and one of the calls that it got.
+/// Preserved memory whose writes break off, and whose reads fail, if their number says so. It keeps a record of its writes with what was
+/// there before them, which gives its moments, and one of the calls that it got.
 #[derive(Drop)]
 pub struct MemBank {
     bytes: Vec<u8>,
@@ -176,7 +176,7 @@ impl Bank for MemBank {
         ensures bank_calls { self.new.notes.missed ≡ false →
             self.new.notes.calls ≡ read at (length into.old) ∷ self.old.notes.calls }
 
-        // It fails exactly where its number is listed, and then moves nothing. It notes the call where it has room.
+        // It fails exactly if its number is listed, and then moves nothing. It notes the call if it has room.
         ensures fails { is_err result ≡ is_bad_read self.old.trouble }
         ensures unmoved { OnErr result (into.new ≡ into.old) }
         ensures ok { OnOk result (self.new ≡ record self.old {
@@ -211,10 +211,10 @@ impl Bank for MemBank {
         ensures bank_calls { self.new.notes.missed ≡ false →
             self.new.notes.calls ≡ write at bytes.now ∷ self.old.notes.calls }
 
-        // It notes the call where it has room.
+        // It notes the call if it has room.
         ensures notes { self.new.notes ≡ noted (write at bytes.now) self.old.notes }
 
-        // With room for it, it ends as its number says, and joins the record: each image from inside it is told.
+        // With room for it, it ends as its number says, and joins the record: each image from inside it is shown.
         ensures ends { IsTrue (has_room self.old (length bytes.now)) → result ≡ how_ends (next_break self.old.trouble) }
         ensures front { IsTrue (has_room self.old (length bytes.now)) →
             self.new.bytes ≡ patched self.old.bytes at (front_of (next_break self.old.trouble) bytes.now) }

@@ -12,7 +12,7 @@ use std::marker::Model;
 use tbl_kinds::{Bytes, Memory};
 use tbl_outside::{Failed, Sink};
 
-/// A sink that keeps what it takes, has room for a number of bytes, and whose writes fail where their number is listed.
+/// A sink that keeps what it takes, has room for a number of bytes, and whose writes fail if their number is listed.
 #[derive(Drop)]
 pub struct MemSink {
     taken: Bytes,
@@ -95,8 +95,8 @@ impl Sink for MemSink {
         ensures cause { OnErr result (Rose self.old.calls.faults self.new.calls.faults) }
         ensures count { self.old.calls.faults ≤ self.new.calls.faults }
 
-        // It fails exactly where its number is listed, and then takes nothing, or where the room is too small, and then
-        // takes what there is room for.
+        // It fails exactly if its number is listed, and then takes nothing, or if the room is too small, and then takes what there is room
+        // for.
         ensures fails { is_err result ≡ (is_listed self.old.calls || nat_lt self.old.room (length bytes.now)) }
         ensures listed { is_listed self.old.calls ≡ true → self.new ≡ record self.old { calls = failed (passed self.old.calls) } }
         ensures taken { is_listed self.old.calls ≡ false → self.new.taken ≡ self.old.taken ++ take self.old.room bytes.now }

@@ -14,8 +14,7 @@ use std::marker::Model;
 use tbl_kinds::{Bytes, Memory};
 use tbl_outside::{Failed, HowFar, Source};
 
-/// A source of given bytes whose reads fail where their number is listed, or from a number of bytes on. A read that fails
-/// moves nothing.
+/// A source of given bytes whose reads fail if their number is listed, or from a number of bytes on. A read that fails moves nothing.
 #[derive(Drop)]
 pub struct MemSource {
     supply: Supply,
@@ -152,8 +151,8 @@ impl Source for MemSource {
         ensures far_ok { IfOk result (λ n. self.new.how_far ≡ after_read n self.old.how_far) }
         ensures far_err { OnErr result (self.new.how_far ≡ after_read 0 self.old.how_far) }
 
-        // It fails exactly where its number is listed or as many bytes were taken as come before the cut, and else moves as
-        // much as it can, up to the cut.
+        // It fails exactly if its number is listed or as many bytes were taken as come before the cut, and else moves as much as it can, up
+        // to the cut.
         ensures fails { is_err result ≡ (is_listed self.old.calls || is_cut self.old.cut) }
         ensures most { IfOk result (λ n. n ≡ before_cut self.old.cut (min (length into.old) (length self.old.left))) }
         ensures cut_ok { IfOk result (λ n. self.new.cut ≡ cut_after self.old.cut n) }

@@ -1,4 +1,4 @@
-// The writes that a bank in memory was asked for, with the bytes that stood before them.
+// The writes that a bank in memory was asked for, with the bytes that were there before them.
 ghost use Rattle.std.specs.Prelude.{◌≡◌, ◌+◌, ◌<◌, ◌^◌, [], ◌∷◌, ◌++◌, ◌-◌, IfOk, IsTrue, length};
 ghost use Rattle.tbl_fakes.specs.Past.{fits};
 
@@ -13,8 +13,8 @@ pub struct Span {
     pub length: u32,
 }
 
-/// The ranges written, oldest first, and the bytes that stood in each before, one after another; besides the room that is
-/// left for further writes and their bytes.
+/// The ranges written, oldest first, and the bytes that were in each before, one after another; also the room that is left for further
+/// writes and their bytes.
 #[derive(Drop)]
 pub(crate) struct Past {
     spans: Vec<Span>,
@@ -58,7 +58,7 @@ impl Past {
         0 < self.writes && length <= self.room
     }
 
-    /// Keeps the range of a write and the bytes that stand in it.
+    /// Keeps the range of a write and the bytes that are in it.
     pub(crate) fn keep(&mut self, at: u32, old: &[u8])
         requires room { IsTrue (fits self.old (length old.now)) }
         requires size { length old.now < 2 ^ 32 }

@@ -4,7 +4,7 @@ ghost use Rattle.std.specs.Prelude.{◌≡◌, ◌++◌, ◌≤◌, length, take
 use std::marker::Model;
 use tbl_kinds::Bytes;
 
-/// Bytes of which a number were read already.
+/// Bytes, and how many of them were read already.
 #[derive(Drop)]
 pub(crate) struct Supply {
     bytes: Bytes,

@@ -17,8 +17,8 @@ pub struct Break {
     pub stop: bool,
 }
 
-/// The writes that break off and the reads that fail, how many of both were made, and how often the bank failed and was
-/// stopped. Each count stands still at 2^64 - 1.
+/// The writes that break off and the reads that fail, how many of both were made, and how often the bank failed and was stopped. Each count
+/// stops at 2^64 - 1.
 #[derive(Drop)]
 pub(crate) struct Troubles {
     breaks: Vec<Break>,

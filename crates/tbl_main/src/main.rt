@@ -60,7 +60,7 @@ It ends with one of these statuses:
 /// What `--version` answers.
 const VERSION: &str = "tbl 1.0.0\n";
 
-/// The text that a word asks for, where it stands alone.
+/// The text that a word asks for, if no further word comes with it.
 fn text_for(words: &[Bytes]) -> Option<&'static str> {
     match words {
         [word] if word.bytes() == b"--help".as_slice() => Some(HELP),

@@ -1,5 +1,5 @@
-//! A session over two banks as one, of which one fails in a write, in its reads, or at the start: both are opened again
-//! afterwards, and what comes back then in each critical table is told.
+//! A session over two banks as one, where one fails in a write, in its reads, or at the start: both are opened again afterwards, and what
+//! comes back then in each critical table is written.
 
 ghost use Rattle.std.specs.Prelude.{◌≡◌, ◌+◌, ◌<◌, ◌≤◌, ◌^◌, length, IfOk};
 ghost use Rattle.tbl_kinds.specs.Places.{bank_size};
@@ -55,7 +55,7 @@ pub(crate) enum Trouble {
 }
 
 impl Trouble {
-    /// Which bank goes on alone where both can't be opened.
+    /// Which bank goes on alone if both can't be opened.
     fn alone(self) -> Alone {
         match self {
             Trouble::NoSecond => Alone::First,
@@ -173,7 +173,7 @@ fn breaks(alloc: Global, dies: Option<Break>) -> Result<Vec<Break>, Fault> {
     Ok(breaks)
 }
 
-/// Both as one, of which one goes on alone. Where the mark says that the first is stale there is none.
+/// Both as one, where one goes on alone. If the mark says that the first is stale there is none.
 fn opened_alone(first: MemBank, second: MemBank, alone: Alone) -> Result<Both, Fault>
     requires larger { length first.bytes < length second.bytes }
     ensures room { IfOk result (λ both. length both.pair.first.bytes ≡ length first.bytes) }
@@ -188,7 +188,7 @@ fn opened_alone(first: MemBank, second: MemBank, alone: Alone) -> Result<Both, F
     }
 }
 
-/// Both as one, and where they can't be opened one of them alone.
+/// Both as one, and if they can't be opened one of them alone.
 fn opened(alloc: Global, apart: Apart, alone: Alone) -> Result<Both, Fault>
     requires larger { length apart.first.bytes < length apart.second.bytes }
     ensures room { IfOk result (λ both. length both.pair.first.bytes ≡ length apart.first.bytes) }
@@ -200,7 +200,7 @@ fn opened(alloc: Global, apart: Apart, alone: Alone) -> Result<Both, Fault>
     }
 }
 
-/// Plays a session over both as one, and tells how many requests were answered.
+/// Plays a session over both as one, and answers how many requests were answered.
 fn play_over(
     alloc: Global,
     both: Both,
@@ -266,7 +266,7 @@ fn is_lost(table: &Table, played: usize, back: Back) -> bool {
 #[derive(Drop)]
 pub(crate) struct Death {
     pub(crate) runs: Runs,
-    /// How many tables lost an image, and all of them where the session broke off.
+    /// How many tables lost an image, and all of them if the session broke off.
     pub(crate) lost: usize,
 }
 

@@ -23,7 +23,7 @@ pub(crate) enum End {
     TooLong,
 }
 
-/// What was read of an input: the whole records at its front, what stands after them, and how it ended.
+/// What was read of an input: the whole records at its front, what comes after them, and how it ended.
 #[derive(Drop)]
 pub(crate) struct Session {
     pub(crate) bytes: Vec<u8>,
@@ -34,7 +34,7 @@ pub(crate) struct Session {
 }
 
 impl Session {
-    /// Counts what stands after the whole records, if it is one more. None where it is no part of a record.
+    /// Counts what comes after the whole records, if it is one more. None if it is no part of a record.
     fn count(&mut self, next: &Next) -> Option<bool> {
         match next {
             Next::Item { used, .. } => {
@@ -47,8 +47,8 @@ impl Session {
         }
     }
 
-    /// Takes the next record, if there is a whole one. None where the bytes after the records are no part of one, or where
-    /// no further record is taken.
+    /// Takes the next record, if there is a whole one. None if the bytes after the records are no part of one, or if no further record is
+    /// taken.
     fn take_record(&mut self, alloc: Global) -> Result<Option<bool>, Memory> {
         let Some(rest) = self.bytes.get(self.whole..) else {
             return Ok(None);
@@ -73,7 +73,7 @@ impl Session {
         Ok(true)
     }
 
-    /// Takes down how the session ended, where the input ended so.
+    /// Takes down how the session ended, if the input ended so.
     fn close(&mut self, end: End) {
         self.end = match end {
             End::Whole if self.whole < self.bytes.len() => End::BadRecord,
@@ -83,7 +83,7 @@ impl Session {
     }
 }
 
-/// Reads once, and takes the records that came. The answer is how the input ended, or none where it goes on.
+/// Reads once, and takes the records that came. The answer is how the input ended, or none if it goes on.
 fn read_on<S: Source>(
     alloc: Global,
     source: &mut S,

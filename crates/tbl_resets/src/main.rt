@@ -1,7 +1,7 @@
-//! Plays a session with a reset of the processor after each byte of each write of its bank, and tells which image of each
-//! critical table comes back after it. The row of a write is written as soon as its resets were tried. With `--mirror` it plays
-//! the session over two banks as one, and lets each fail in each write in turn and at the start, and the first in its reads. The
-//! bank begins empty, or with the bytes of a store file, which is only read.
+//! Plays a session with a reset of the processor after each byte of each write of its bank, and writes which image of each critical table
+//! comes back after it. The row of a write is written as soon as its resets were tried. With `--mirror` it plays the session over two banks
+//! as one, and lets each fail in each write in turn and at the start, and the first in its reads. The bank begins empty, or with the bytes
+//! of a store file, which is only read.
 #![tactic(auto)]
 
 mod dying;
@@ -110,7 +110,7 @@ impl Told {
         Ok(written?)
     }
 
-    /// Writes what stands before the rows.
+    /// Writes what comes before the rows.
     fn write_front(&mut self, plan: &Plan<'_>) -> Result<(), Fault> {
         tell_front(&mut self.text, plan)?;
         self.write_out()
@@ -122,7 +122,7 @@ impl Told {
         self.write_out()
     }
 
-    /// Writes what stands after the rows.
+    /// Writes what comes after the rows.
     fn write_end(&mut self, plan: &Plan<'_>) -> Result<(), Fault> {
         tell_end(&mut self.text, plan, &self.counts)?;
         self.write_out()

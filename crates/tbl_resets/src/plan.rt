@@ -17,7 +17,7 @@ pub(crate) struct Plan<'a> {
     pub(crate) scenario: &'a Scenario<'a>,
     /// Inside long writes each number of bytes is tried that this one divides.
     pub(crate) every: u32,
-    /// Whether the session is played over two banks, the first of which dies, in the place of resets.
+    /// Whether the session is played over two banks, the first of which dies, instead of with resets.
     pub(crate) is_mirrored: bool,
     pub(crate) writes: &'a [Span],
     pub(crate) history: &'a [Entry],
@@ -54,7 +54,7 @@ fn is_critical(flags: u16) -> bool {
     Options::from_bits_retain(flags).contains(Options::CRITICAL)
 }
 
-/// How a request registered a critical table; none where it did something else.
+/// How a request registered a critical table; none if it did something else.
 fn registration_of(entry: &Entry, app: &Name20) -> Option<Registration> {
     let Request::Register {
         name,
@@ -337,7 +337,7 @@ const FIRST_ROOM: Room = Room {
 /// How often the room is doubled before it is given up.
 const DOUBLINGS: u32 = 11;
 
-/// The ranges of all writes of a bank; none where it had no room for its record of them.
+/// The ranges of all writes of a bank; none if it had no room for its record of them.
 fn spans_of(alloc: Global, bank: &MemBank) -> Result<Option<Vec<Span>>, Fault> {
     if bank.faults() == 0 {
         Ok(Some(bank.spans().to_vec(alloc)?))
@@ -346,7 +346,7 @@ fn spans_of(alloc: Global, bank: &MemBank) -> Result<Option<Vec<Span>>, Fault> {
     }
 }
 
-/// The ranges of all writes of a session; none where its bank had no room for its record of them.
+/// The ranges of all writes of a session; none if its bank had no room for its record of them.
 fn writes_in(scenario: &Scenario<'_>, count: usize) -> Result<Option<Vec<Span>>, Fault> {
     let bank = behind(scenario, count)?.end();
     spans_of(scenario.alloc, &bank)

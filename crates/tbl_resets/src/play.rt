@@ -100,8 +100,8 @@ fn bank_of(alloc: Global, image: &[u8], breaks: &[Break], room: Room) -> Result<
     MemBank::make(alloc, bytes, breaks, &[], room.writes, room.bytes)
 }
 
-/// What a stop left: the bytes of the bank, and how many requests were answered, that in which it came with them; none where
-/// it came in the boot at the start.
+/// What a stop left: the bytes of the bank, and how many requests were answered, including the one in which it came; none if it came in the
+/// boot at the start.
 #[derive(Drop)]
 pub(crate) struct Left {
     pub(crate) played: usize,
@@ -117,7 +117,7 @@ pub(crate) fn left_in(alloc: Global, bank: &MemBank, played: usize) -> Result<Le
     Ok(Left { played, image })
 }
 
-/// The service that starts over a bank, or what is left in the bank where it was stopped in the boot.
+/// The service that starts over a bank, or what is left in the bank if it was stopped in the boot.
 pub(crate) enum Started {
     Runs(Service),
     Stopped(Left),
@@ -142,7 +142,7 @@ fn start_over(alloc: Global, bank: MemBank, kit: Kit<Shipped>) -> Result<Started
     }
 }
 
-/// Starts the service over a bank of these bytes, whose writes break off where the list says so.
+/// Starts the service over a bank of these bytes, whose writes break off if the list says so.
 fn start(alloc: Global, image: &[u8], breaks: &[Break], room: Room) -> Result<Started, Fault> {
     if image.len() != BANK_SIZE {
         return Err(Fault::Full);
@@ -160,7 +160,7 @@ pub(crate) fn last_entry<B: Bank>(core: &Core<B, Shipped>) -> Result<&Entry, Fau
     }
 }
 
-/// Plays a request. The answer is whether the service goes on after it: not where the processor was reset in it.
+/// Plays a request. The answer is whether the service goes on after it, which it doesn't if the processor was reset in it.
 fn step<B: Bank>(core: &mut Core<B, Shipped>, actor: Actor, request: Request) -> Result<bool, Fault>
     ensures added { IfOk result (λ _. length core.new.entries ≡ length core.old.entries + 1) }
 {
@@ -180,8 +180,7 @@ pub(crate) fn ask(core: &mut Service, actor: Actor, request: Request) -> Result<
     last_entry(core)
 }
 
-/// Plays the record at the front of some bytes, and gives its length: 0 where there is none, or where the processor was reset
-/// in it.
+/// Plays the record at the front of some bytes, and gives its length: 0 if there is none, or if the processor was reset in it.
 fn step_front<B: Bank>(
     alloc: Global,
     core: &mut Core<B, Shipped>,
@@ -271,7 +270,7 @@ const FEW_WRITES: Room = Room {
     bytes: 32_768,
 };
 
-/// The service that starts anew over what a reset left.
+/// The service that starts again over what a reset left.
 pub(crate) fn anew(alloc: Global, image: &[u8]) -> Result<Service, Fault> {
     match start(alloc, image, &[], FEW_WRITES)? {
         Started::Runs(core) => Ok(core),

@@ -1,4 +1,4 @@
-// What comes back after a reset: asked from the service that starts anew over the bank that was left.
+// What comes back after a reset: asked from the service that starts again over the bank that was left.
 use crate::plan::Plan;
 use crate::play::{Fault, Service, anew, ask, close};
 use crate::tables::{Back, Registration, Table};
@@ -12,7 +12,7 @@ fn status_of(core: &mut Service, actor: Actor, request: Request) -> Result<Statu
     Ok(ask(core, actor, request)?.reply.status)
 }
 
-/// The bytes of a table that its owner has got; none where the read is refused.
+/// The bytes of a table that its owner has got; none if the read is refused.
 fn read_bytes(
     core: &mut Service,
     actor: Actor,
@@ -32,7 +32,7 @@ fn read_bytes(
     }
 }
 
-/// The last image of a table, read by its owner through its handle; none where it has none.
+/// The last image of a table, read by its owner through its handle; none if it has none.
 pub(crate) fn read_image(
     core: &mut Service,
     actor: Actor,
@@ -48,8 +48,8 @@ pub(crate) fn read_image(
     }
 }
 
-/// Whether the application of a table runs under its name once those tables that stand before it are registered; none where
-/// it doesn't run, as it has registered none of them.
+/// Whether the application of a table runs under its name once the tables before it are registered; none if it doesn't run, as it has
+/// registered none of them.
 fn runs_as_wanted(earlier: &[Table], wanted: &Registration, played: usize) -> Option<bool> {
     for table in earlier.iter().rev() {
         if let Some(registration) = table.registration(played) {
@@ -80,7 +80,7 @@ fn start_app(
     Ok(())
 }
 
-/// What a request to register a table anew is answered: the status and the detail.
+/// The answer to a request that registers a table again: the status and the detail.
 fn register(core: &mut Service, wanted: &Registration) -> Result<(Status, u32), Fault> {
     let request = Request::Register {
         name: wanted.name.copy(),
@@ -123,7 +123,7 @@ fn handle_of(detail: u32) -> Result<u16, Fault> {
     }
 }
 
-/// Registers a table anew, and says what came back.
+/// Registers a table again, and says what came back.
 fn back_of(
     core: &mut Service,
     table: &Table,
@@ -154,7 +154,7 @@ fn come_back_at(
     back_of(core, table, wanted, played)
 }
 
-/// What comes back in each table, registered anew in a service that was just started.
+/// What comes back in each table, registered again in a service that was just started.
 fn come_back_in(
     core: &mut Service,
     tables: &[Table],

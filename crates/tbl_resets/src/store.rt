@@ -54,7 +54,7 @@ fn open<R: Files<File = File>>(rt: &R, name: &str) -> Result<File, CopyFault> {
     Ok(file)
 }
 
-/// Reads the front of a file into these bytes, as far as the file goes.
+/// Reads the front of a file into these bytes, up to the end of the file.
 fn read_front(file: &File, bytes: &mut [u8]) -> Result<(), CopyFault> {
     let there = file.metadata().map_err(CopyFault::Read)?.len();
     let size = there.min(bytes.len() as u64) as usize;
@@ -62,7 +62,7 @@ fn read_front(file: &File, bytes: &mut [u8]) -> Result<(), CopyFault> {
         .map_err(CopyFault::Read)
 }
 
-/// The bytes of a bank in which nothing was written.
+/// The bytes of a bank before anything was written in it.
 pub(crate) fn empty_store(alloc: Global) -> Result<Vec<u8>, AllocError> {
     vec![in alloc; 0; BANK_SIZE]
 }

@@ -28,7 +28,7 @@ pub(crate) struct Image {
 pub(crate) enum Change {
     Registered(Registration),
     Copied(Image),
-    /// The block went, or was made anew: no image of before may come back.
+    /// The block is gone, or was made again: no image of before may come back.
     Emptied,
 }
 
@@ -48,7 +48,7 @@ pub(crate) struct Table {
     pub(crate) stored: Option<Image>,
 }
 
-/// What came back in a table, registered anew after a reset.
+/// What came back in a table, registered again after a reset.
 #[derive(Clone, Copy, PartialEq)]
 pub(crate) enum Back {
     /// No image.
@@ -110,7 +110,7 @@ impl Table {
         None
     }
 
-    /// The registration that was in force when so many requests had come; the first one where none had come before.
+    /// The registration that was in force when so many requests had come; the first one if none had come before.
     pub(crate) fn registration(&self, played: usize) -> Option<&Registration> {
         match self.last_registration(played) {
             Some(registration) => Some(registration),

@@ -18,7 +18,7 @@ const WRITES_AT: usize = 38;
 /// Where the second column begins in the lines of deaths.
 const DEATH_AT: usize = 27;
 
-/// How wide the column of what is written is beside the name of a table, and the one of the bytes after it.
+/// The width of the column of what is written, without the name of a table, and that of the column of bytes after it.
 const COPY_LEN: usize = 14;
 
 const RANGE_LEN: usize = 14;
@@ -50,7 +50,7 @@ fn tell_at(text: &mut String, line: usize, column: usize, what: &str) -> Result<
     text.push_str(what)
 }
 
-/// The request's name in docs/FORMATS.md. The one command that writes to the bank is DELETE_CDS.
+/// The request's name in docs/reference (commands.md and calls.md). The one command that writes to the bank is DELETE_CDS.
 fn request_name(request: &Request) -> &'static str {
     match request {
         Request::Command { .. } => "DELETE_CDS",
@@ -104,7 +104,7 @@ const DIRECTORY_AT: u32 = 16;
 
 const ENTRY_LEN: u32 = 64;
 
-/// Where in an entry its turn bytes stand.
+/// The place of the turn bytes in an entry.
 const TURNS_AT: u32 = 52;
 
 /// Where the blocks begin.
@@ -119,7 +119,7 @@ fn part_of(place: u32) -> &'static str {
     }
 }
 
-/// Writes what a write has, by its place in the bank (docs/STORE.md). Only a copy writes into the place of a block.
+/// Writes what a write has, by its place in the bank (docs/reference/store.md). Only a copy writes into the place of a block.
 fn tell_piece(
     text: &mut String,
     plan: &Plan<'_>,
@@ -178,8 +178,7 @@ fn tell_head(
     tell_piece(text, plan, played, span)
 }
 
-/// Writes the ranges of the table at a place, the first after what stands in the line. The answer is where the next line
-/// begins.
+/// Writes the ranges of the table at a place, the first after what the line has already. The answer is where the next line begins.
 fn tell_runs(
     text: &mut String,
     line: usize,
@@ -218,7 +217,7 @@ pub(crate) fn tell_write(
     }
 }
 
-/// Writes from which to which number of bytes a range goes.
+/// Writes the first and the last number of bytes of a range.
 fn tell_range(text: &mut String, run: Run) -> Result<(), AllocError> {
     let (from, to) = (run.from, run.to);
     if from == to {
@@ -228,7 +227,7 @@ fn tell_range(text: &mut String, run: Run) -> Result<(), AllocError> {
     }
 }
 
-/// Writes a range, the table and what came back, after what stands in the line.
+/// Writes a range, the table and what came back, after what the line has already.
 fn tell_run(
     text: &mut String,
     line: usize,
@@ -283,7 +282,7 @@ fn tell_table(text: &mut String, table: &Table) -> Result<(), AllocError> {
     Ok(())
 }
 
-/// Writes which resets inside long writes were tried, where some were left out.
+/// Writes which resets inside long writes were tried, if some were left out.
 fn tell_every(text: &mut String, every: u32) -> Result<(), AllocError> {
     if every <= 1 {
         return Ok(());
@@ -352,13 +351,13 @@ fn tell_sums(text: &mut String, counts: &Counts) -> Result<(), AllocError> {
     )
 }
 
-/// Writes what stands before the lines of the first write.
+/// Writes what comes before the lines of the first write.
 pub(crate) fn tell_front(text: &mut String, plan: &Plan<'_>) -> Result<(), AllocError> {
     tell_tables(text, plan)?;
     tell_columns(text, plan)
 }
 
-/// Writes what stands after the lines of the last write.
+/// Writes what comes after the lines of the last write.
 pub(crate) fn tell_end(
     text: &mut String,
     plan: &Plan<'_>,
@@ -368,7 +367,7 @@ pub(crate) fn tell_end(
     tell_sums(text, counts)
 }
 
-/// Writes what stands before the lines of what goes wrong with two banks.
+/// Writes what comes before the lines of what goes wrong with two banks.
 pub(crate) fn tell_deaths_front(text: &mut String, plan: &Plan<'_>) -> Result<(), AllocError> {
     tell_tables(text, plan)?;
     tell_deaths_head(text, "first bank dies in write")
@@ -420,7 +419,7 @@ pub(crate) fn tell_death(
     }
 }
 
-/// Writes what stands after the lines of what went wrong.
+/// Writes what comes after the lines of what went wrong.
 pub(crate) fn tell_deaths_end(
     text: &mut String,
     plan: &Plan<'_>,

@@ -11,7 +11,7 @@ use tbl_fakes::Span;
 /// In writes of so many bytes or fewer each number of bytes is tried, whatever `--every` says.
 pub(crate) const SHORT_WRITE: u32 = 64;
 
-/// Between two lines that tell how far the work is.
+/// Between two lines that say how far the work is.
 const STARTS_TOLD: u64 = 1_024;
 
 /// A write of the session: its number, from 1, and its range.
@@ -80,7 +80,7 @@ impl Runs {
         }
     }
 
-    /// Takes what came back in a table after so many bytes. Where something else came back before, that range ends.
+    /// Takes what came back in a table after so many bytes. If something else came back before, that range ends.
     pub(crate) fn take(&mut self, table: usize, after: u32, back: Back) -> Result<(), AllocError> {
         let run = Run {
             table,
@@ -121,7 +121,7 @@ fn is_tried(after: u32, length: u32, every: u32) -> bool
     length <= SHORT_WRITE || after == length || after.checked_rem(every) == Some(0)
 }
 
-/// Puts a byte at a place. The answer is whether another one stood there.
+/// Puts a byte at a place. The answer is whether it changed the byte there.
 fn put(image: &mut [u8], at: usize, byte: u8) -> bool
     ensures length { length image.new ≡ length image.old }
     ensures same { result ≡ false → image.new ≡ image.old }
@@ -140,7 +140,7 @@ pub(crate) struct Sweep {
     /// How many requests had been made.
     pub(crate) played: usize,
     pub(crate) runs: Runs,
-    /// Whether the bank isn't the one any more of which was asked what comes back.
+    /// Whether the bank has changed since it was asked what comes back.
     is_changed: bool,
 }
 
@@ -156,8 +156,8 @@ impl Sweep {
         })
     }
 
-    /// A reset after so many bytes. The answer is whether the service was started anew: where the bank is still the one that
-    /// was asked about before, the same comes back.
+    /// A reset after so many bytes. The answer is whether the service was started again: if the bank is still the one that was asked about
+    /// before, the same comes back.
     fn reset(&mut self, plan: &Plan<'_>, after: u32, counts: &mut Counts) -> Result<bool, Fault> {
         let starts = self.is_changed;
         if starts {
@@ -176,8 +176,8 @@ impl Sweep {
         Ok(starts)
     }
 
-    /// Writes the byte of a write at this place, from 0, and tries a reset after it. `bytes` are those of the bank once the
-    /// whole write is there. The answer is whether the service was started anew.
+    /// Writes the byte of a write at this place, from 0, and tries a reset after it. `bytes` are those of the bank once the whole write is
+    /// there. The answer is whether the service was started again.
     fn try_byte(
         &mut self,
         plan: &Plan<'_>,
@@ -220,10 +220,9 @@ fn try_bytes<R: Eprint>(
     Ok(sweep.runs.end()?)
 }
 
-/// Tries a reset after each number of bytes of a write, with a sweep that begins there. What is left after no byte and after all
-/// of them comes from the session played up to there. Between these two the bank has a front of the write: it is made from both.
-/// Where a byte of the write changes nothing, what the reset leaves is the same as one byte before, and what comes back isn't
-/// asked once more.
+/// Tries a reset after each number of bytes of a write, with a sweep that begins there. What is left after no byte and after all of them
+/// comes from the session played up to there. Between these two the bank has a front of the write: it is made from both. If a byte of the
+/// write changes nothing, what the reset leaves is the same as one byte before, and what comes back isn't asked again.
 pub(crate) fn try_write<R: Eprint>(
     rt: &R,
     plan: &Plan<'_>,
@@ -236,7 +235,7 @@ pub(crate) fn try_write<R: Eprint>(
     try_bytes(rt, plan, write, behind.image.as_slice(), sweep, counts)
 }
 
-/// Says now and then on standard error how far the work is. Where that can't be written, it goes on.
+/// Says now and then on standard error how far the work is. If that can't be written, it goes on.
 fn tell_progress<R: Eprint>(rt: &R, plan: &Plan<'_>, write: Write, after: u32, starts: u64) {
     if starts % STARTS_TOLD == 0 {
         let number = write.number;
