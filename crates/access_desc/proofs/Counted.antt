@@ -14,7 +14,7 @@ use Rattle.access_desc.specs.Counts.{ArePinsOf, AreKept, row_at, no_pins, one_mo
 
 -- ---- a search that begins later
 
--- where none of the first places passes, the first that passes is found after them
+-- if none of the first places passes, the first that passes is found after them
 skipped : {X : Type 0} (q : X → Bool) (xs : List X) (k : ℕ) (d : X) → k ≤ length xs → ((n : ℕ) → n < k → q (get_or xs n d) ≡ false) → position_or_len q xs ≡ k + position_or_len q (drop k xs)
 skipped q xs zero d within fails = omega arith
 skipped q [] (suc k) d within fails = absurd (omega (arith, within))
@@ -33,7 +33,7 @@ later q xs k d found within fails is =
       | inr past ↦ grind (arith, nat_tests)
     ])
 
--- ---- where none is counted
+-- ---- if none is counted
 
 -- there is no first, of those that are counted or of some of them
 none_first : {X : Type 0} (p q : X → Bool) (xs : List X) (d : X) → ((x : X) → q x ≡ true → p x ≡ true) → count_by p xs ≡ 0 → position q xs ≡ None
@@ -180,7 +180,7 @@ freed row at places kept within of = by (has (pins row) (at_place places at)) re
   by true pinned = record { counted = omega (arith, rw pinned at sum, of.counted); none_before = others }
   by false isnt = record { counted = omega (arith, rw isnt at sum, of.counted); none_before = others }
 
--- no place passes where none is counted
+-- no place passes if none is counted
 no_one : (b : Bool) → cond b 1 0 ≤ 0 → b ≡ false
 no_one false none = refl
 no_one true none = absurd (omega (arith, none))
@@ -191,7 +191,7 @@ none_at row n places none = elim (cases_lt n (length places)) [
   | inr past ↦ ap (has (pins row)) (get_or_past places n None past)
 ]
 
--- once something stands at a free place
+-- once something is at a free place
 stands : (row at : ℕ) (place : Option HandleView) (places : List (Option HandleView)) (kept : RowPins) → at < length places → at_place places at ≡ None → ArePinsOf row places kept → ArePinsOf row (slice_set places at place) (cond (has (pins row) place) (one_more at kept) kept)
 stands row at place places kept within free of = by (has (pins row) place) refl where
   sum : count_by (has (pins row)) (slice_set places at place) + 0 ≡ count_by (has (pins row)) places + cond (has (pins row) place) 1 0
@@ -224,7 +224,7 @@ stands row at place places kept within free of = by (has (pins row) place) refl 
     ];
   }
 
--- once another handle, or nothing, stands at a place: what was kept of a row, without what stood there, and then with it
+-- once another handle, or nothing, is at a place: what was kept of a row, without what was there, and then with it
 one_put : (row at : ℕ) (place : Option HandleView) (places : List (Option HandleView)) (old mid new : RowPins) → at < length places → mid ≡ cond (has (pins row) (at_place places at)) (one_less old) old → new ≡ cond (has (pins row) place) (one_more at mid) mid → ArePinsOf row places old → ArePinsOf row (slice_set places at place) new
 one_put row at place places old mid new within out counted of =
     let free = freed row at places old within of in

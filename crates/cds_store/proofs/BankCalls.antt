@@ -48,7 +48,7 @@ strays_split bytes directory k (suc n) le =
           ([], subst (λ i. strays_to (suc n) bytes directory ≡ strays_to i bytes directory ++ []) (sym same) (sym (append-nil (strays_to (suc n) bytes directory))))
     ]
 
--- what was read first tells the same
+-- what was read first says the same
 pub strays_read : (front old : List ℕ) (directory : List (Option Block)) → IsFront front directory old → (k : ℕ) → k ≤ slot_count
     → strays_to k front directory ≡ strays_to k old (directory_of old)
 strays_read front old directory is zero le = strays_none front directory ∙ sym (strays_none old (directory_of old))

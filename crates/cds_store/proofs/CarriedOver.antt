@@ -30,7 +30,7 @@ use Rattle.cds_store.proofs.Strays.{directory_within, directory_alike, same_stor
 pub held_first : (bytes : List ℕ) (n : ℕ) (b : Block) → is_first_version bytes ≡ true → held_in bytes n b ≡ held_by bytes b (Some First)
 held_first bytes n b first = sym (held-shown bytes n b (Some First) (sym (ap (λ (is_first : Bool). cond is_first (Some First) (turned_in bytes n)) first)))
 
--- then, what the turns tell
+-- then, what the turns say
 held_turned : (bytes : List ℕ) (n : ℕ) (b : Block) → is_first_version bytes ≡ false → held_in bytes n b ≡ held_by bytes b (turned_in bytes n)
 held_turned bytes n b second = sym (held-shown bytes n b (turned_in bytes n) (sym (shown-turned bytes n second)))
 
@@ -113,7 +113,7 @@ module _ (old now image : List ℕ) (n : ℕ) (within : n < slot_count) (carried
     second_turn : turn_in image n Second ≡ turn_of (slice_index_or (carried_turns whole) 1 0)
     second_turn = let same : turn_place n Second ≡ turns_place n + 1 = omega arith in ap (λ at. turn_of (byte_at at image)) same ∙ ap turn_of (byte_there 1 (omega arith))
 
-    -- they tell what the first place holds
+    -- they say what the first place holds
     turned_here : held_by image b (turned_in image n) ≡ held_by image b (Some First)
     turned_here = by whole is (λ i. shown_by (first_turn i) (second_turn i))
       where

@@ -29,7 +29,7 @@ use Rattle.cds_store.proofs.Showing.{slot_is}
 use Rattle.cds_store.proofs.Steps.{settled_to, within_slots}
 use Rattle.cds_store.proofs.Together.{there_within}
 
--- the slots stay where what is known of a block changes
+-- the slots stay if what is known of a block changes
 -- a copy that broke off before its turn byte changes nothing
 unchanged_by : (blocks : Blocks) (n : ℕ) → changed (λ b. b) n blocks ≡ blocks
 unchanged_by blocks n = ap (slice_set blocks n) (same (stored_at blocks n)) ∙ set-get_or blocks n None
@@ -197,7 +197,7 @@ told_err : (P : RestoreFault → Type 0) (tells : Type 0) (r : Result Unit Resto
 told_err P tells (Ok x) told p = tt
 told_err P tells (Err e) told p = p told
 
--- what a failed read tells, told in other words
+-- what a failed read reports, in other words
 pub if_err_so : {P Q : RestoreFault → Type 0} (r : Result Unit RestoreFault) → IfErr r P → ((fault : RestoreFault) → P fault → Q fault) → IfErr r Q
 if_err_so (Ok x) err so = tt
 if_err_so (Err fault) err so = so fault err

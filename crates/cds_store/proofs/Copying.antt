@@ -25,7 +25,7 @@ use Rattle.cds_store.proofs.Frames.{IsApart, place_low, gate_stays, told_stays, 
 use Rattle.cds_store.proofs.Steps.{put_back, own_within, own_right, own_changed, own_agrees}
 use Rattle.cds_store.proofs.TurnLaws.{with_turn, kept_or_turned, opened_shows, turn_of-byte_of}
 
--- where the turn bytes stand in an entry
+-- the place of the turn bytes in an entry
 abbrev TurnStands : ℕ → Place → Type 0
 TurnStands n p = (gate_place n ≤ turn_place n p) × (turn_place n p + 1 ≤ gate_place n + 64) × (tail_place n + told_len ≤ turn_place n p)
 
@@ -55,7 +55,7 @@ module _ (n : ℕ) (slots : List (Option Slot)) (blocks : Blocks) (old : List �
   turn_apart : (place turned : Place) → IsApart (place_at b.block place) (head_len + b.block.size) (turn_place n turned) 1
   turn_apart place turned = inl (let high = (turn_stands n turned).1 in omega (arith, within, high, place_behind place))
 
-  -- ---- any bytes stand in the hidden place
+  -- ---- any bytes are in the hidden place
 
   module _ (mid : List ℕ) (torn : Torn (place_at b.block hidden) (head_len + b.block.size) old mid) where
     mid_elsewhere : Elsewhere n slots old mid
@@ -90,7 +90,7 @@ module _ (n : ℕ) (slots : List (Option Slot)) (blocks : Blocks) (old : List �
         subst (MatchesBlocks mid slots) (put_back blocks n (Some b) there)
         (own_changed n slots blocks old mid b stands there b refl mid_elsewhere mid_gate mid_told (subst (MayGive b) (sym mid_held) (stands.held n b there)))
 
-  -- ---- the image stands there, and the turn byte is written
+  -- ---- the image is there, and the turn byte is written
 
   module _ (copy : List ℕ) (sized : length copy ≡ b.block.size) (check : check16 copy < 2 ^ 16) (long : bank_size ≤ length old) where
     abbrev mid : List ℕ

@@ -34,7 +34,7 @@ first_written [] (y ∷ ys) torn same = absurd (omega (arith, torn.same_length))
 first_written (x ∷ xs) [] torn same = absurd (omega (arith, torn.same_length))
 first_written (x ∷ xs) (y ∷ ys) torn same = cc (same, torn.behind)
 
--- where the mark was there, it is there still, or no block is shown
+-- if the mark was there, it is there still, or no block is shown
 pub first_torn : (old image : List ℕ) → byte_at 0 old ≡ 0x43 → Torn 0 1 old image → Clears old image
 first_torn old image there torn = elim (cases_Bool (byte_at 0 image == 0x43)) [
   | inl still ↦ inl (first_written old image torn (there ∙ sym (eqb-true (byte_at 0 image) 0x43 still)))

@@ -49,7 +49,7 @@ found_not test (suc n) s le =
     ∙ ap (λ b. b || list_any (λ m. m == s) (cond (test n) (n ∷ []) [])) (found_not test n s (omega (arith, le)))
     ∙ any_cond (test n) n s (ne_eqb n s (λ same. omega (arith, le, same)))
 
--- a number below is among them where it passes
+-- a number below is among them if it passes
 pub found_has : (test : ℕ → Bool) (n s : ℕ) → s < n → list_any (λ m. m == s) (found_to n test) ≡ test s
 found_has test zero s lt = absurd (omega (arith, lt))
 found_has test (suc n) s lt =

@@ -87,7 +87,7 @@ module _ (at count : ℕ) (old image : List ℕ) (torn : Torn at count old image
   held_by_stays b first second (Some First) = place_stays b First first
   held_by_stays b first second (Some Second) = place_stays b Second second
 
-  -- the range is apart from all that tells what the block of a slot holds
+  -- the range is apart from all that says what the block of a slot holds
   pub record IsClear (k : ℕ) (b : Block) : Type 0 where
     pub version : IsApart at count version_place 1
     pub turns : IsApart at count (turns_place k) turns_len
@@ -98,7 +98,7 @@ module _ (at count : ℕ) (old image : List ℕ) (torn : Torn at count old image
   unfolding held_in
   held_stays k b clear = ap (held_by image b) (shown_stays k clear.version clear.turns) ∙ held_by_stays b clear.first clear.second (shown_in old k)
 
-  -- what lies elsewhere stays, where the range is apart from it
+  -- what lies elsewhere stays, if the range is apart from it
   pub record Spares (n : ℕ) (slots : List (Option Slot)) : Type 0 where
     pub mark : 4 ≤ at
     pub gates : (k : ℕ) → k ≢ n → k < slot_count → IsApart at count (gate_place k) 1

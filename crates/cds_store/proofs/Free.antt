@@ -1,4 +1,4 @@
--- The least free slot, and the blocks, where one slot is counted as free.
+-- The least free slot, and the blocks, if one slot is counted as free.
 use Rattle.std.proofs.Common.{◌≡◌, ℕ, zero, suc, ◌+◌, ◌<◌, ◌≤◌, List, [], ◌∷◌, ◌++◌, length, take, drop, slice_set, nat_lt, cond, Option, Some, None, is_none, refl, sym, ◌∙◌, ap, arith}
 use Rattle.std.specs.List.{position_or_len, filter_map}
 use Rattle.std.specs.Option.{option_map}

@@ -1,4 +1,4 @@
--- What the directory of bytes that match the slots tells.
+-- What the directory has of bytes that match the slots.
 use Rattle.std.proofs.Common.{◌≡◌, inl, inr, ℕ, zero, suc, ◌<◌, ◌≤◌, ◌==◌, List, [], ◌∷◌, length, slice_index_or, Bool, true, false, cond, Option, Some, None, refl, sym, ◌∙◌, ap, arith, length-append}
 use Rattle.std.specs.List.{list_all}
 use Rattle.std.specs.Option.{option_map}
@@ -13,7 +13,7 @@ use Rattle.cds_layout.proofs.Stored.{stored_there}
 use Rattle.cds_store.specs.Sound.{slot_at, AreTogether, EntryIs, Matches}
 use Rattle.cds_store.specs.declared.slot.Slot.{Slot}
 
--- the block of a slot, where its gate stands open
+-- the block of a slot, if its gate is open
 abbrev pub opened : Bool → Option Slot → Option Block
 opened gate None = None
 opened gate (Some s) = cond gate (Some s.block) None

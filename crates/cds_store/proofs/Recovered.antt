@@ -28,7 +28,7 @@ use Rattle.cds_layout.specs.declared.blocks.RestoreFault.{RestoreFault}
 use Rattle.cds_store.specs.StoreBlocks.{AreHeld, slot_of}
 use Rattle.cds_store.proofs.Showing.{slot_is}
 
--- ---- a block that is found stands in its slot
+-- ---- a block that is found is in its slot
 
 none_there : (kind : BlockKind) (name : List ℕ) (o : Option Slot) → is_open_slot kind name o ≡ true → None ≡ option_map block_of o → ⊥
 none_there kind name None opens none = cc opens
@@ -117,7 +117,7 @@ gives_none bytes slots blocks slot fault told is same held torn b there =
 -- ---- what is read of it
 
 module _ {B : Type 0} (tells_calls : B → Type 0) (calls_of : B → List BankCall) (kind : BlockKind) (name : List ℕ) (blocks : Blocks) (bytes : List ℕ) where
-  -- nothing where none is open
+  -- nothing if none is open
   pub reads_none : (bank : B) → open_of kind name blocks ≡ None → Asks tells_calls calls_of bank bank true (open_reads kind name blocks bytes)
   reads_none bank none =
       subst (Asks tells_calls calls_of bank bank true) (sym (ap (λ (o : Option ℕ). option_map_or (λ (slot : ℕ). option_map_or (λ (b : Stored). restore_calls bytes slot b.block) (stored_at blocks slot) []) o []) none)) (λ told. (told, refl))

@@ -1,4 +1,4 @@
--- A reservation on the slots is one on the blocks that they stand for.
+-- A reservation on the slots is one on the blocks that they represent.
 use Rattle.std.proofs.Common.{◌≡◌, ◌≢◌, inl, inr, ℕ, zero, suc, ◌-◌, ◌≤◌, List, [], ◌∷◌, length, map, slice_set, nat_lt, nat_le, Bool, true, false, not, ◌&&◌, Option, Some, None, is_some, is_none, IsSome, IfSome, find, refl, sym, ◌∙◌, ap, subst, arith}
 use Rattle.std.specs.List.{list_all, range_with_len}
 use Rattle.std.specs.Option.{option_map}
@@ -39,7 +39,7 @@ free_is : {X Y : Type 0} (f : X → Y) (place : Option X) → is_none (option_ma
 free_is f None = refl
 free_is f (Some x) = refl
 
--- ---- the slots, and the blocks that they stand for
+-- ---- the slots, and the blocks that they represent
 
 doubtful_is : (kind : BlockKind) (name : List ℕ) (place : Option Stored) → is_doubtful_slot kind name (option_map slot_of place) ≡ is_doubtful_of kind name place
 doubtful_is kind name None = refl
@@ -111,7 +111,7 @@ room_there old size n at slots blocks same is =
 pub has_that_room : (old : Option ℕ) (size n at : ℕ) (blocks : Blocks) → Room old size n at blocks → has_room size old blocks ≡ true
 has_that_room old size n at blocks room = rw (room.slot, room.place_is) refl
 
--- ---- what is done, and what is left where it broke off
+-- ---- what is done, and what is left if it broke off
 
 module _ (kind : BlockKind) (name : List ℕ) (size n at : ℕ) (old : Option ℕ) (blocks : Blocks) (is : old ≡ doubtful_of kind name blocks) (room : Room old size n at blocks) where
   new : Block

@@ -1,4 +1,4 @@
--- What each write of a call makes of the blocks that the bytes stand for.
+-- What each write of a call makes of the blocks that the bytes represent.
 use Rattle.std.proofs.Common.{◌≡◌, ◌≢◌, inl, inr, ℕ, ◌<◌, ◌==◌, List, slice_index_or, slice_set, Bool, true, false, Option, Some, None, refl, sym, ◌∙◌, ap, subst, arith}
 use Rattle.std.specs.Option.{option_map}
 use Rattle.std.proofs.lemmas.List.{set-get_or}
@@ -19,11 +19,11 @@ use Rattle.cds_layout.proofs.EntryLaws.{IsRight, right-parts}
 use Rattle.cds_layout.proofs.Restored.{shown-turned, held-shown}
 use Rattle.cds_store.proofs.Together.{there_within, together_without, together_same, together_set}
 
--- a block of which no place shows holds no image
+-- a block that shows no place holds no image
 holds_none : (bytes : List ℕ) (n : ℕ) (b : Block) → is_first_version bytes ≡ false → turned_in bytes n ≡ None → held_in bytes n b ≡ None
 holds_none bytes n b version none = sym (held-shown bytes n b None (sym (shown-turned bytes n version ∙ none)))
 
--- nothing changes where a place gets what it has
+-- nothing changes if a place gets what it has
 pub put_back : {X : Type 0} (xs : List (Option X)) (n : ℕ) (o : Option X) → slice_index_or xs n None ≡ o → slice_set xs n o ≡ xs
 put_back xs n o is = ap (slice_set xs n) (sym is) ∙ set-get_or xs n None
 
@@ -91,7 +91,7 @@ module _ (n : ℕ) (slots : List (Option Slot)) (blocks : Blocks) (old image : L
       subst (λ (l : List (Option Slot)). MatchesBlocks image l blocks) (put_back slots n None new.free)
       (subst (λ (l : Blocks). MatchesBlocks image (slice_set slots n None) l) (put_back blocks n None (no_block (stored_at blocks n) refl)) after)
 
-  -- once its entry stands and no place shows, the write that opens the gate makes it
+  -- once its entry is written and no place shows, the write that opens the gate makes it
   pub made_torn : (doubtful : Bool) → Torn (gate_place n) 1 old image → block_in (told_at old n) ≡ Some block → turned_in old n ≡ None
       → (doubtful ≡ false → (gate_at image n == gate_open) ≡ true)
       → MatchesBlocks image (slice_set slots n (Some (record { block = block; doubtful = doubtful }))) (slice_set blocks n (Some (new_block doubtful block.kind block.name block.size block.offset)))

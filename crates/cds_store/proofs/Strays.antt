@@ -1,4 +1,4 @@
--- The gates that tell no block are closed, and the directory stays.
+-- The gates that have no block are closed, and the directory stays.
 use Rattle.std.proofs.Common.{◌≡◌, ◌≢◌, inl, inr, ⊎_elim, ℕ, zero, suc, ◌+◌, ◌*◌, ◌<◌, ◌≤◌, ◌==◌, ◌&&◌, List, [], ◌∷◌, ◌++◌, length, take, replicate, slice_index_or, Bool, true, false, cond, Option, Some, None, is_none, refl, sym, ◌∙◌, ap, subst, arith, length-append}
 use Rattle.std.specs.List.{list_all}
 use Rattle.std.specs.Option.{option_map}
@@ -66,7 +66,7 @@ no_blocks_at k n = elim (cases_lt n k) [
   | inr past ↦ get_or_past (replicate k None) n None (omega (arith, past, length-replicate k no_block))
 ]
 
--- a block of the directory stands in a slot
+-- a block of the directory is in a slot
 pub directory_within : (bytes : List ℕ) (n : ℕ) (b : Block) → slice_index_or (directory_of bytes) n None ≡ Some b → n < slot_count
 directory_within bytes n b there = elim (cases_lt n slot_count) [
   | inl lt ↦ lt
@@ -88,7 +88,7 @@ dead_by bytes k is dead = directory-is bytes k is ∙ ap (λ live. cond live (di
 pub dead_is_emptied : (bytes : List ℕ) → is_live bytes ≡ false → IsEmptied bytes
 dead_is_emptied bytes dead = dead_by bytes slot_count refl dead
 
--- the entry of a block in the directory is open, and tells it
+-- the entry of a block in the directory is open, and has it
 pub directory_states : (bytes : List ℕ) (n : ℕ) (b : Block) → n < slot_count → is_live bytes ≡ true → slice_index_or (directory_of bytes) n None ≡ Some b
     → (is_open bytes n ≡ true) × (block_in (told_at bytes n) ≡ Some b)
 directory_states bytes n b lt live there = stated_parts bytes n b (counted_some (directory_to bytes n) (stated bytes n) b (sym (entry_counts bytes n lt live) ∙ there))
@@ -96,7 +96,7 @@ directory_states bytes n b lt live there = stated_parts bytes n b (counted_some 
 stated_alike : (old image : List ℕ) (k : ℕ) → gate_at image k ≡ gate_at old k → told_at image k ≡ told_at old k → stated image k ≡ stated old k
 stated_alike old image k gate told = rw (gate, told) refl
 
--- bytes with the same gates, which tell the same blocks
+-- bytes with the same gates, which have the same blocks
 module _ (old image : List ℕ) (live : is_live image ≡ is_live old) (gates : (k : ℕ) → k < slot_count → gate_at image k ≡ gate_at old k) (told : (k : ℕ) → k < slot_count → told_at image k ≡ told_at old k) where
   alike_to : (k : ℕ) → k ≤ slot_count → directory_to image k ≡ directory_to old k
   alike_to zero le = refl
@@ -115,7 +115,7 @@ module _ (old image : List ℕ) (live : is_live image ≡ is_live old) (gates : 
   pub directory_alike : directory_of image ≡ directory_of old
   directory_alike = alike_by slot_count refl
 
--- ---- a gate that tells no block is written
+-- ---- a gate that has no block is written
 
 module _ (n : ℕ) (old image : List ℕ) (torn : Torn (gate_place n) 1 old image) where
   apart : (k from size : ℕ) → k ≢ n → gate_place k ≤ from → from + size ≤ gate_place k + 64 → IsApart (gate_place n) 1 from size
@@ -191,7 +191,7 @@ tidied_start old live = record {
   rest = λ n le within. refl;
 }
 
--- the gate is closed, or tells a block of the directory
+-- the gate is closed, or has a block of the directory
 pub tidied_skip : (old now : List ℕ) (k : ℕ) → k < slot_count → (is_open old k && is_none (slice_index_or (directory_of old) k None)) ≡ false → Tidied old now k → Tidied old now (k + 1)
 tidied_skip old now k within fine so_far = record {
   same = so_far.same;
@@ -302,7 +302,7 @@ emptied_shows image emptied = record {
     none_at : (n : ℕ) → MayShow (stored_at empty_store n) None
     none_at n = subst (λ (o : Option Stored). MayShow o None) (sym (empty_at slot_count n)) refl
 
--- where all gates are closed, too
+-- if all gates are closed, too
 pub shut_is_emptied : (bytes : List ℕ) → ((n : ℕ) → n < slot_count → is_open bytes n ≡ false) → IsEmptied bytes
 shut_is_emptied bytes shut =
     elim (cases_Bool (is_live bytes)) [

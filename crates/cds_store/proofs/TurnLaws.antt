@@ -7,7 +7,7 @@ use Rattle.cds_layout.specs.declared.turns.Turn.TheVariants.{Zero, One, Two}
 use Rattle.cds_layout.specs.declared.turns.Place.{Place}
 use Rattle.cds_layout.specs.declared.turns.Place.TheVariants.{First, Second}
 
--- what shows where the turn of this place is another
+-- what shows if the turn of this place is another
 abbrev pub with_turn : Place → Option Turn → Option Turn → Option Turn → Option Place
 with_turn First turn first second = shown_by turn second
 with_turn Second turn first second = shown_by first turn

@@ -42,9 +42,9 @@ pub struct Store<B: Bank> {
     bank: B,
     booted: bool,
     directory: Directory,
-    /// Into which a boot reads the first bytes of the bank.
+    /// The room into which a boot reads the first bytes of the bank.
     front: Vec<u8>,
-    /// The bytes in which an image is spelled as a place has it.
+    /// The room in which an image is spelled as a place has it.
     room: Vec<u8>,
 }
 
@@ -113,7 +113,7 @@ impl Room {
 }
 
 impl<B: Bank> Store<B> {
-    /// A store over a bank, of which nothing was read. All memory that it needs is taken here.
+    /// A store over a bank before anything was read of it. All memory that it needs is taken here.
     pub fn make(alloc: Global, bank: B) -> Result<Store<B>, Back<Memory, B>>
         requires { bank_size ≤ B.size bank }
         ensures slots { IfOk result (λ store. store.slots ≡ replicate 128 None) }

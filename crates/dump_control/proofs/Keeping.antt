@@ -1,4 +1,4 @@
--- Pending validations and requested activations stay where a table changes that neither concerns.
+-- Pending validations and requested activations stay when a table changes that neither concerns.
 use Rattle.std.proofs.Common.{◌≡◌, ◌<◌, ℕ, List, true, false, Option, Some, None, refl, sym, ◌∙◌, arith}
 use Rattle.tbl_model.specs.State.{Table, Tables}
 use Rattle.tbl_model.specs.Tables.{table_at}

@@ -41,7 +41,7 @@ first_named entries name (Some place) is =
     let found = position-Some (is_named name) entries place nothing (sym is) in
     named_at entries place name nothing found.0 found.1
 
--- and where none is found, there is no such file
+-- and if none is found, there is no such file
 pub none_named : (entries : List Entry) (name : List ℕ) (r : Option ℕ) → r ≡ position (is_named name) entries → IfNone r (contents_of (files_of entries) name ≡ None)
 none_named entries name (Some place) is = tt
 none_named entries name None is =

@@ -1,4 +1,4 @@
--- A file behind the field of its name.
+-- A file after the field of its name.
 use Rattle.std.proofs.Common.{◌≡◌, ℕ, List, ◌++◌, drop, sym, ap, ◌∙◌}
 use Rattle.std.proofs.Math.Seq.{drop-append_seam}
 use Rattle.tbl_kinds.specs.Names.{name_field}

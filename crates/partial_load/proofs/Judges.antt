@@ -10,7 +10,7 @@ use Rattle.partial_load.specs.Asking.{judge_of}
 use Rattle.partial_load.proofs.Admission.{function_asks}
 use Rattle.tbl_kinds.specs.declared.entry.Answer.{Answer}
 
--- where nothing refuses it, the table's function is asked about the image
+-- if nothing refuses it, the table's function is asked about the image
 pub refusal_asks : (s : State) (given : Given) (row : ℕ) (image : List ℕ) (refusal : Option Answer) (number : Option ℕ) (effect : Effect) → effect.questions ≡ []
     → (by_refusal s refusal (by_function s row image number given effect)).questions ≡ asks (judge_of refusal number) image
 refusal_asks s given row image None number effect none = function_asks s given row image number effect none

@@ -77,7 +77,7 @@ any_one_more seconds sub es e c =
 unmoved : (n m : ℕ) → n % m ≡ (n % m + 0) % m
 unmoved n m = sym (mod-mod n m) ∙ ap (λ k. k % m) (omega arith)
 
--- an event of which no validation comes
+-- an event that reports no validation
 abbrev still : Counts → List TelemetryEvent → Counts → Counts
 still c es other = record other {
   finished = ((c.finished + count_by is_finished es) % 65536 + 0) % 65536;
@@ -163,7 +163,7 @@ not_stopped : (a b : Bool) → (a || b) ≡ false → b ≡ false
 not_stopped false b is = is
 not_stopped true b is = absurd (cc is)
 
--- the counts after it, by whether the service began anew
+-- the counts after it, by whether the service began again
 after_by : Counts → Told → Bool → Counts
 after_by c t anew = counts_after c (record (tally_of t) { restarted = anew; cleared = anew || resets_counters (read_command_in t.request) t.effect })
 
@@ -171,7 +171,7 @@ unless : {X : Type 0} (b : Bool) (x y : X) → b ≡ false → cond b x y ≡ y
 unless false x y is = refl
 unless true x y is = absurd (cc is)
 
--- what is told of a request with this effect, which was read so: whether it asks for a load, and of which file
+-- what is reported of a request with this effect, which was read so: whether it asks for a load, and of which file
 module _ (seconds sub : ℕ) (tables : Tables) (done : Effect) (c : Counts) (read : ReadCommand) (asked : Bool) (file : Option (List ℕ)) where
   abbrev own : List Event
   own = command_events read (seen done)
@@ -206,7 +206,7 @@ module _ (seconds sub : ℕ) (tables : Tables) (done : Effect) (c : Counts) (rea
       ∙ ap (λ shown. event_packets seconds sub c.events (own ++ map sent_event done.events) ++ shown ++ notice_packet (sent_shown done.shown loaded) done.notice) (shown_same done.shown)
       ∙ ap (λ notice. event_packets seconds sub c.events (own ++ map sent_event done.events) ++ shown_packet (head_at seconds sub (sent_of c done.shown)) counted tables done.shown ++ notice) (notice_same done.notice)
 
--- it is told of this request, in which the service goes on
+-- it is reported of this request, in which the service goes on
 module _ (seconds sub : ℕ) (tables : Tables) (done : Effect) (c : Counts) (request : Request) (goes_on : restarts (told_at seconds sub tables request done) ≡ false) where
   abbrev t : Told
   t = told_at seconds sub tables request done
@@ -273,7 +273,7 @@ none_read : {X : Type 0} (read : ReadCommand) → None ≡ read → is_some read
 none_read None is some = absurd (cc some)
 none_read (Some command) is some = absurd (cc is)
 
--- it is told of a command
+-- it is reported of a command
 pub command_tells : (seconds sub : ℕ) (tables : Tables) (done : Effect) (request : Request) (read : ReadCommand) (c new : Counts) (packets : List ℕ)
     → read_command_in request ≡ read → is_some read ≡ true → is_stopped (seen done) ≡ false
     → Steps seconds sub tables done read (is_some (file_of_load read)) (file_of_load read) c new packets
@@ -286,7 +286,7 @@ command_tells seconds sub tables done (ask.Command bytes) read c new packets is 
     ∙ sym (ap (λ (o : ReadCommand). put seconds sub tables done c o (is_some (file_of_load o)) (file_of_load o)) is))
 command_tells seconds sub tables done request read c new packets is some goes_on steps = none_read read is some
 
--- it is told of a call
+-- it is reported of a call
 pub call_tells : (seconds sub : ℕ) (tables : Tables) (done : Effect) (request : Request) (c new : Counts) (packets : List ℕ)
     → read_command_in request ≡ None → is_reset request ≡ false → is_stopped (seen done) ≡ false
     → Steps seconds sub tables done None (asks_load request None) (load_file_of request None) c new packets
@@ -304,7 +304,7 @@ stopped_sends_none : (stopped : Bool) (packets : List ℕ) → stopped ≡ true 
 stopped_sends_none true packets is = refl
 stopped_sends_none false packets is = absurd (cc is)
 
--- it isn't told, and the counts begin anew
+-- it isn't reported, and the counts begin again
 pub stop_tells : (seconds sub : ℕ) (tables : Tables) (done : Effect) (request : Request) (c new : Counts) (packets : List ℕ)
     → is_stopped (seen done) ≡ true → ((t : Told) → restarts t ≡ true → new ≡ counts_after c (tally_of t)) → packets ≡ []
     → Tells c new (told_at seconds sub tables request done) packets
@@ -329,7 +329,7 @@ counted_with success c = record c {
 pub sent_none : (c : Counts) → c.events < 16384 → sent_events 0 c ≡ c
 sent_none c fits = λ i. record c { events = same_mod c.events 16384 fits i }
 
--- it is no command, of which nothing is counted
+-- it is no command, and nothing is counted of it
 pub uncounted : (c : Counts) (status : Status) → c.accepted < 256 → c.refused < 256 → c.requests < 256 → counted_command None status c ≡ c
 uncounted c status accepted refused requests = none (is_success status) where
   none : (success : Bool) → counted_with success c ≡ c

@@ -1,4 +1,4 @@
--- Whose function stands under a number of the kit.
+-- Whose function has a number of the kit.
 use Rattle.std.proofs.Common.{◌≡◌, ℕ, ◌==◌, List, [], ◌∷◌, map, Bool, true, false, cond, Option, Some, None, refl, ap}
 use Rattle.std.specs.Prelude.{slice_get, unwrap_or, option_and_then}
 use Rattle.std.specs.Option.{option_map}
@@ -18,12 +18,12 @@ by app None = refl
 by app (Some None) = refl
 by app (Some (Some entry)) = refl
 
--- it is the application's where the kit says so
+-- it is the application's if the kit says so
 pub may_use_at : {C : Type 0} (kit : List (Option (KitEntry C))) (app number : ℕ) → may_use (owners kit) app (Some number) ≡ is_of app (entry_at kit number)
 unfolding owner_of
 may_use_at kit app number = rw (slice_get-map owner_of kit number, ← unwrap_or-slice_get kit number None) (by app (slice_get kit number))
 
--- where those of an application are dropped, nobody's stand
+-- if those of an application are dropped, nobody's are there
 pub owners_dropped : {C : Type 0} (app : ℕ) (kit : List (Option (KitEntry C))) → owners (dropped app kit) ≡ map (unless_of app) (owners kit)
 owners_dropped app [] = refl
 owners_dropped app (None ∷ kit) = ap (λ (more : List (Option ℕ)). None ∷ more) (owners_dropped app kit)

@@ -1,4 +1,4 @@
--- A full name has no zero byte, and is a name where its parts are names.
+-- A full name has no zero byte, and is a name if its parts are names.
 use Rattle.std.proofs.Common.{◌≡◌, ℕ, ◌+◌, nat_lt, Bool, true, not, List, [], ◌∷◌, ◌++◌, length, take, refl, ap, ◌∙◌, sym, eqb, eq-eqb, length-append, append_assoc, arith}
 use Rattle.std.proofs.lemmas.List.Folds.{length-prefix_len, prefix_len-append}
 use Rattle.std.proofs.Math.Seq.{take-length}
@@ -28,7 +28,7 @@ full_reads_itself app short a b = ap (λ n. take n (full_name app short)) (full_
 pub full_is : (app short field : List ℕ) → HasNoZero app → HasNoZero short → field ≡ (app ++ 46 ∷ []) ++ short → name_in field ≡ full_name app short
 full_is app short field a b is = ap name_in (is ∙ append_assoc app (46 ∷ []) short) ∙ full_reads_itself app short a b
 
--- where both are names it is one
+-- if both are names it is one
 pub full_named : (app short : List ℕ) → is_name app ≡ true → is_name short ≡ true → is_name (full_name app short) ≡ true
 full_named app short a b =
     let of_app = and_parts (nat_lt 0 (length app)) (list_all is_printable_byte app) a in

@@ -12,7 +12,7 @@ use Rattle.tbl_model.specs.Subjects.{by_app, if_running}
 use Rattle.tbl_model.specs.Sharing.{is_handle_of, share_found, share_effect, info_of, info_effect, give_up, unregister_by, unregister_effect, without_handles_of, ended_app, exit_effect}
 use Rattle.sharing.specs.Apps.{app_name}
 
--- it runs where its name is found
+-- it runs if its name is found
 pub has_name : {X : Type 0} (found : Option X) (name : Option (List ℕ)) → (IsNone found ↔ (name ≡ None)) → (b : Bool) → is_some found ≡ not b → b ≡ false → name ≡ None → ⊥
 has_name None name same b is no_name none = cc (is, no_name)
 has_name (Some x) name same b is no_name none = absurd (cc (same.1 none))

@@ -31,7 +31,7 @@ use Rattle.store_requests.specs.BankCalls.{AsksBy, restore_at, make_at, AsksIn}
 use Rattle.store_requests.specs.Called.{call_note, done_note, broken_note, reserve_note, IsUngiven}
 use Rattle.request_effects.specs.Effects.{Effect}
 
--- of a slot in which a block is open
+-- of a slot that has an open block
 pub at_open : (o : Option Slot) (size : ℕ) (calls : Slot → List BankCall) (HasCalls : List BankCall → Type 0) → IsOpenOf size o → ForSome o (λ s. HasCalls (calls s)) → HasCalls (option_map_or calls o [])
 at_open None size calls HasCalls sized called = absurd sized
 at_open (Some s) size calls HasCalls sized called = called s refl
@@ -46,7 +46,7 @@ module _ {B : Type 0} (g : Ghosts B) (old new : B) (calls : List BankCall) (note
   bank_calls_once (Err (Fault gate prior)) is called = rw is called
   bank_calls_once (Err (Cut gate prior)) is called = rw is called
 
--- how a restore is noted: it is done also where the block was read and gave no image
+-- how a restore is noted: it is done also if the block was read and gave no image
 abbrev pub words_outcome : Option ℕ → Outcome
 words_outcome (Some told) = Done
 words_outcome None = Failed
@@ -87,7 +87,7 @@ module _ {B : Type 0} (g : Ghosts B) (old new : B) (note : BankNote) (room : Opt
     by None at there = absurd (cc there)
     by (Some r) at there = subst By (same_Some (calls r) list there) (make_each made is full (calls r) (called r at))
 
-  -- or nothing, where there is no room
+  -- or nothing, if there is no room
   pub asked_make : (made : Result ℕ ReserveFault) → note ≡ reserve_note made untouched → (lacks_room made ≡ true → new ≡ old) → (room ≡ None → lacks_room made ≡ true) → ForSome room (λ r. Asks g.tells_calls g.calls old new (is_ok made) (calls r)) → By (unwrap_or (option_map calls room) [])
   asked_make made is full none called = by room refl where
     lacking : (made : Result ℕ ReserveFault) → note ≡ reserve_note made untouched → (lacks_room made ≡ true → new ≡ old) → lacks_room made ≡ true → By []
@@ -153,7 +153,7 @@ bank_calls_first g old new note slot fault more is called list there = by more t
 
 -- ---- by the calls of the store that a request makes
 
--- where none was made, it doesn't count which would be
+-- if none was made, it doesn't matter which would be
 pub asked_none : {B : Type 0} (g : Ghosts B) (old new : B) (note : BankNote) (calls other : List BankCall) → note ≡ untouched → AsksBy g old new note.outcome calls → AsksBy g old new note.outcome other
 asked_none g old new note calls other is asked = subst (λ (n : BankNote). AsksBy g old new n.outcome other) (sym is) (subst (λ (n : BankNote). AsksBy g old new n.outcome calls) is asked)
 
@@ -161,7 +161,7 @@ asked_none g old new note calls other is asked = subst (λ (n : BankNote). AsksB
 pub asked_one : {B : Type 0} (g : Ghosts B) (old new : B) (outcome : Outcome) (calls : List BankCall) → AsksBy g old new outcome calls → AsksBy g old new outcome (calls ++ [])
 asked_one g old new outcome calls asked = subst (AsksBy g old new outcome) (sym (append-nil calls)) asked
 
--- a reservation finds no room where the slots have none
+-- a reservation finds no room if the slots have none
 pub none_lacks : (kind : BlockKind) (name : List ℕ) (size : ℕ) (slots : List (Option Slot)) (blocks : Blocks) (lacks : Bool) → slots ≡ map (option_map slot_of) blocks → lacks ≡ not (has_room size (doubtful_of kind name blocks) blocks)
     → room_in size (without_slot (doubtful_slot kind name slots) slots) ≡ None → lacks ≡ true
 none_lacks kind name size slots blocks lacks same full none =

@@ -51,7 +51,7 @@ use Rattle.tbl_outside.specs.declared.bank.Bank.{Ghosts}
 
 -- ---- the effect
 
--- what is told is the answer
+-- what is reported is the answer
 pub told_so : (s next : State) (done : Effect) (status : Status) (detail : ℕ) (bytes : List ℕ) (note : BankNote) → IsTold done status detail bytes note
     → IsEffect done [] next (record (answered s status detail) { bytes = bytes; next = next })
 told_so s next done status detail bytes note told = record {
@@ -74,7 +74,7 @@ told_with {done} {status} {detail} {bytes} {other} {note} {is} same same_note to
 pub ungiven_told : (done : Effect) (w : Option ℕ) {bytes : List ℕ} {note : BankNote} → bytes ≡ [] → note ≡ untouched → IsUngiven done w bytes note → IsUngiven done w [] untouched
 ungiven_told done w {bytes} {note} empty fresh told = subst (λ (b : List ℕ). IsUngiven done w b untouched) empty (subst (IsUngiven done w bytes) fresh told)
 
--- it is enough to know it of the note that is told
+-- it is enough to know it of the note that is given
 pub by_note : {B : Type 0} (g : Ghosts B) (first kept : StoreParts B) (s : State) (done : Effect) (means : BankNote → model.Effect) (note : BankNote) → done.note ≡ note
     → ((ended stopped : Bool) (found : List ℕ) → IsCalled g first kept (unasked s) done (with_boot ended stopped found note) (means (with_boot ended stopped found note)))
     → Calls g first kept s done means
@@ -86,7 +86,7 @@ pub flags_break : (gate old : Bool) (fault : BankFault) (call : StoreCall) (stor
 flags_break gate old fault call store can flags =
     subst (λ g. CanBreak g (is_old fault) call store) (sym flags.gate_is) (subst (λ o. CanBreak gate o call store) (sym flags.old_is) can)
 
--- a note that tells of no restore
+-- a note that has no restore
 abbrev pub Plain : BankNote → Type 0
 Plain note = (note.restored ≡ None) × (note.torn ≡ 0)
 
@@ -213,7 +213,7 @@ module _ {B : Type 0} (g : Ghosts B) (first kept : StoreParts B) (s : State) (do
         asked = is.asked;
       }
 
--- what is told beside an answer that is silent by itself
+-- what is reported besides an answer that is silent by itself
 pub silent_beside : (done : Effect) (report : Reported) (table : Option Named) → IsSilent done → report ≡ record nothing_reported { table = table }
     → record done { table = table } ≡ reported_effect done.answer done.bytes report done.note
 silent_beside done report table silent is = (λ i. record done {
@@ -243,7 +243,7 @@ module _ {B : Type 0} (g : Ghosts B) (first before kept : StoreParts B) (s : Sta
 
 -- ---- a restore
 
--- what the bank shows of a block is what stands in it
+-- what the bank shows of a block is what is in it
 held_is : (bytes : List ℕ) (n : ℕ) (o : Option Block) (left : Stored) → option_map (stored_in bytes n) o ≡ Some left → left.held ≡ held_in bytes n left.block
 held_is bytes n None left is = absurd (cc is)
 held_is bytes n (Some b) left is = subst (λ (x : Stored). x.held ≡ held_in bytes n x.block) (same_Some (stored_in bytes n b) left is) refl
@@ -258,11 +258,11 @@ held_image bytes blocks slot image shows held b there = by (stored_at (store_of 
       let whole : left.held ≡ Some image = sym (ap (option_and_then (λ (b : Stored). b.held)) is) ∙ held in
       sym (ap (held_in bytes slot) same) ∙ sym (held_is bytes slot (slice_index_or (directory_of bytes) slot None) left (sym (stored_there bytes slot) ∙ is)) ∙ whole
 
--- the block of a slot that stands for blocks
+-- the block of a slot that represents blocks
 pub block_there : (slots : List (Option Slot)) (blocks : Blocks) (slot : ℕ) (b : Stored) → slots ≡ map (option_map slot_of) blocks → stored_at blocks slot ≡ Some b → slot_at slots slot ≡ Some (slot_of b)
 block_there slots blocks slot b same there = slot_is [] slots blocks same slot ∙ ap (option_map slot_of) there
 
--- what the bank tells of the block in a slot is what a restore of it may give
+-- what the bank shows of the block in a slot is what a restore of it may give
 module _ (bytes : List ℕ) (blocks : Blocks) (slot : ℕ) where
   pub gives_image : (image : List ℕ) → Shows blocks (store_of bytes) → held_at slot (store_of bytes) ≡ Some image → ForSome (stored_at blocks slot) (λ b. MayGive b (Some image))
   gives_image image shows held b there = by (stored_at (store_of bytes) slot) refl held (subst (λ o. MayShow o (stored_at (store_of bytes) slot)) there (shows.each slot)) where

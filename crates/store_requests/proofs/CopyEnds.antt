@@ -61,7 +61,7 @@ module _ {B : Type 0} (g : Ghosts B) (first kept : StoreParts B) (e : model.Effe
   abbrev Copies : Effect → (BankNote → model.Effect) → Type 0
   Copies done means = CallsAfter g first kept (done_first e) done means
 
-  -- it is enough to know it of the note that is told
+  -- it is enough to know it of the note that is given
   by_told : (done : Effect) (means : BankNote → model.Effect) (note : BankNote) → done.note ≡ note
       → ((ended stopped : Bool) (found : List ℕ) → IsCalled g first kept (done_first e) done (with_boot ended stopped found note) (means (with_boot ended stopped found note))) → Copies done means
   by_told done means note told all =
@@ -174,7 +174,7 @@ module _ {B : Type 0} (g : Ghosts B) (first kept : StoreParts B) (e : model.Effe
       let n = with_boot ended stopped found done.note in
       subst (IsCalled g first kept (done_first e) done n) (sym (same n)) (all ended stopped found)
 
--- ---- how much is told, and the counts of the bank
+-- ---- how much is reported, and the counts of the bank
 
 pub rose_one : (before now : ℕ) → Rose before now → RoseBy 1 before now
 rose_one before now (inl more) = inl (omega (arith, more))
@@ -243,7 +243,7 @@ copied_room row slot (Err (Cut gate old)) before done copied packets had = recor
 
 -- ---- nothing is copied
 
--- less room is enough where nothing more is told
+-- less room is enough if nothing more is reported
 pub same_room : (critical : Bool) (packets : Buffer) (before : Effect) (note : BankNote) → HasRoom (cond critical 24 0) packets before → HasRoom 0 packets (record before { note = note })
 same_room critical packets before note had = record { none = had.none; room = let room = had.room in omega (arith, room) }
 
@@ -285,7 +285,7 @@ module _ (row : ℕ) (n : BankNote) (e : model.Effect) (tables : Tables) (same :
     either true = found
     either false = refl
 
-  -- the table isn't critical, where one is there
+  -- the table isn't critical, if there is one
   pub none_critical : IfSome (table_at tables row) (λ t. false ≡ is_critical t) → then_copy row n e ≡ e
   none_critical plain = by (table_at tables row) refl plain where
     by : (t : Option Table) → table_at tables row ≡ t → IfSome t (λ t. false ≡ is_critical t) → then_copy row n e ≡ e

@@ -1,4 +1,4 @@
--- A registration as the model has it, by what is found: how many tables are critical, and which block stands under the name.
+-- A registration as the model has it, by what is found: how many tables are critical, and which block has the name.
 use Rattle.std.proofs.Common.{◌≡◌, inl, inr, ℕ, [], ◌∷◌, ◌≤◌, ◌<◌, suc, arith, Bool, true, false, not, Option, Some, None, refl, sym, ◌∙◌, ap, subst}
 use Rattle.std.specs.Prelude.{if◌then◌else◌, option_and_then, unwrap_or, IsSome, IfSome, nat_le, length, replicate}
 use Rattle.std.specs.Option.{option_or}

@@ -37,6 +37,6 @@ module _ {B : Type 0} (g : Ghosts B) where
         subst (λ (kept : StoreParts B). LeavesOnly g.clock g.left_since old.bank kept.bank (λ image. IsLeft (store_of image))) (sym same)
         (started g.clock g.left_since old.bank (λ image. IsLeft (store_of image)) (λ image left. subst (λ (bytes : List ℕ). IsLeft (store_of bytes)) (sym (holds old.bank image told (only old.bank image told left))) is))
 
-    -- so it does where no call was made
+    -- so it does if no call was made
     pub uncalled_leaves : (old new : StoreParts B) (blocks : Blocks) → new ≡ old → Shows blocks (store_of (g.now old.bank)) → Leaving g old new (DuringCalls [] blocks)
     uncalled_leaves old new blocks same shows = unmoved old new (DuringCalls [] blocks) same (before_calls [] blocks (store_of (g.now old.bank)) shows)

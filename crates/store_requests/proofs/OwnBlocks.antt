@@ -1,4 +1,4 @@
--- Blocks of an application's own: what the slot of one tells, and what the model does with it.
+-- Blocks of an application's own: what the slot of one says, and what the model does with it.
 use Rattle.std.proofs.Common.{◌≡◌, ℕ, zero, suc, ◌<◌, arith, get_or, ◌==◌, List, [], ◌∷◌, length, Bool, true, false, not, ◌&&◌, cond, Option, Some, None, is_some, refl, sym, ◌∙◌, ap, subst}
 use Rattle.std.specs.Prelude.{slice_get, position, IfSome, IfNone}
 use Rattle.std.specs.List.{starts_with}

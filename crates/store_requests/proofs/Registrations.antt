@@ -145,7 +145,7 @@ module _ {B : Type 0} (g : Ghosts B) (first kept : StoreParts B) (s : State) (do
           asked = asked;
         }
 
-  -- the note is this one, where the call broke off
+  -- the note is this one, if the call broke off
   pub broken_is : (fault : BankFault) (note : BankNote) → EntersBroken old new t done fault note → done.note ≡ broken_note fault note
   broken_is (Fault gate prior) note enters = enters.told.note_is
   broken_is (Cut gate prior) note enters = enters.0.note_is
@@ -209,7 +209,7 @@ module _ {B : Type 0} (g : Ghosts B) (first kept : StoreParts B) (s : State) (do
     abbrev Breaks : Result ℕ ReserveFault → Type 0
     Breaks result = IfErr result (λ fault. IfBank fault (λ fault. (blocks : Blocks) → StandsFor g.tells g.now before blocks → CanBreak (is_gate fault) (is_old fault) (reserve of_table t.name t.size) blocks))
 
-    -- where no open block of its name is there
+    -- if there is no open block of its name
     pub new_reserved : (result : Result ℕ ReserveFault) → (g.tells_moments → LeavesOnly g.clock g.left_since first.bank kept.bank (LeavesIn (reserve of_table t.name t.size) s.store)) → AsksIn g first kept done.note.outcome (reserve of_table t.name t.size ∷ []) → (kept ≡ before → Leaving g first kept (DuringCalls [] s.store)) → open_of of_table t.name s.store ≡ None → StandsFor g.tells g.now before s.store
         → Made result → Full result → (lacks_room result ≡ true → kept ≡ before) → Broke result → Breaks result → EntersReserved old new t done result untouched
         → Calls g first kept changed done (λ n. kept_effect s row t n None)
@@ -260,7 +260,7 @@ module _ {B : Type 0} (g : Ghosts B) (first kept : StoreParts B) (s : State) (do
 pub refilled : (n : ℕ) (xs ys : List ℕ) → n ≡ length xs → take n (xs ++ drop (length xs) ys) ≡ xs
 refilled n xs ys is = ap (λ (k : ℕ). take k (xs ++ drop (length xs) ys)) is ∙ take-append_seam xs (drop (length xs) ys)
 
--- ---- what is told of it, and the counts of the bank
+-- ---- what is reported of it, and the counts of the bank
 
 plain_cause : (status : Status) (note : BankNote) → tells_trouble status ≡ false → HasCause status note
 plain_cause status note quiet = record {
@@ -393,7 +393,7 @@ module _ (bytes : List ℕ) (s : State) (row : ℕ) (t : Table) where
   pub recovery_holds : (slot : ℕ) (n : BankNote) → (n.outcome ≡ Done → ForSome (stored_at s.store slot) (λ b. GaveHeld bytes slot b.block n)) → RestoresAsHeld n (recovery s row t slot n)
   recovery_holds slot n held = calls_hold (restore slot (restored_image n) ∷ []) n (recovered s row t (restored_image n)) held
 
-  -- nothing, where it has no block of its size
+  -- nothing, if it has no block of its size
   made_holds : (n : BankNote) (old : Option ℕ) → RestoresAsHeld n (making s row t old n)
   made_holds n None = calls_hold (renewal of_table t.name t.size None) n (registered s row t SUCCESS) tt
   made_holds n (Some slot) = calls_hold (renewal of_table t.name t.size (Some slot)) n (registered s row t SUCCESS) tt

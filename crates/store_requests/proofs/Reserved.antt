@@ -100,7 +100,7 @@ module _ {B : Type 0} (g : Ghosts B) (first before kept : StoreParts B) (s : Sta
   abbrev Breaks : Result ℕ ReserveFault → Type 0
   Breaks result = IfErr result (λ fault. IfBank fault (λ fault. (blocks : Blocks) → StandsFor g.tells g.now before blocks → CanBreak (is_gate fault) (is_old fault) (reserve App name size) blocks))
 
-  -- of a name of which no open block is there
+  -- of a name that has no open block
   pub new_called : (result : Result ℕ ReserveFault) → (g.tells_moments → LeavesOnly g.clock g.left_since first.bank kept.bank (LeavesIn (reserve App name size) s.store)) → AsksIn g first kept done.note.outcome (reserve App name size ∷ []) → (kept ≡ before → Leaving g first kept (DuringCalls [] s.store)) → open_of App name s.store ≡ None → StandsFor g.tells g.now before s.store
       → Made result → At result → Full result → (lacks_room result ≡ true → kept ≡ before) → Broke result → Breaks result
       → IsTold done (reserve_status result) (reserve_detail result) [] (reserve_note result untouched)
@@ -143,7 +143,7 @@ module _ {B : Type 0} (g : Ghosts B) (first before kept : StoreParts B) (s : Sta
       by_note g first kept s done (λ n. then_call (delete old ∷ reserve App name size ∷ []) n faulted (answered s SUCCESS slot)) (broken_note fault (done_note untouched)) told.note_is
       (calls_broke g first kept s done (delete old ∷ reserve App name size ∷ []) SUCCESS slot [] (done_note untouched) moments asked (reserve App name size) refl fault told (err left stands) (breaks left stands) (λ is. (refl, refl)) (tt, tt) (λ n restored torn. (restored, torn)))
 
--- where room was asked for before, there is some after the deletion
+-- if room was asked for before, there is some after the deletion
 pub room_left : (kind : BlockKind) (blocks : Blocks) (name : List ℕ) (size old : ℕ) (b : Bool) → has_room size (Some old) blocks ≡ true → doubtful_of kind name (after (delete old) blocks) ≡ None
     → b ≡ not (has_room size (doubtful_of kind name (after (delete old) blocks)) (after (delete old) blocks)) → b ≡ true → ⊥
 room_left kind blocks name size old b room none full lacks =

@@ -31,7 +31,7 @@ not_written s w n (Some t) there is = rw there (by t.dump is)
     by (requested file) is = refl
     by (filled file image) is = absurd (cc is)
 
--- a filled one is written, if the drawer takes its file, and that is told
+-- a filled one is written, if the drawer takes its file, and that is reported
 module _ (s : State) (w : Written) (n len : ℕ) (file : List ℕ) where
   pub is_written : (x : Option Table) → table_at s.tables n ≡ x → filled_name x ≡ Some file → length (filled_file s x) ≡ len → is_full_for w.drawer file ≡ false
       → then_write s w n ≡ record { drawer = with_file w.drawer file (filled_file s x); bytes = w.bytes ++ filled_file s x; events = w.events ++ Dumped (Some n) file len ∷ [] }
@@ -128,7 +128,7 @@ module _ (s : State) where
           ∙ sym (λ i. joined s (fold then_finish (stays i) (rows_from (k + 1) xs)) (fold (then_write s) (not_written s w k x first is i) (rows_from (k + 1) xs)))
       by false false is uses more = more tables w (λ j. ap (table_at tables) (next j) ∙ now (suc j))
 
--- all that housekeeping writes, ends and tells
+-- all that housekeeping writes, ends and reports
 pub all_ended : (s : State) (w : Written) (tables : Tables) → fold (then_write s) (record { drawer = s.drawer; bytes = []; events = [] }) (in_use s.tables) ≡ w → tables ≡ fold then_finish s.tables (in_use s.tables)
     → housekeeping_effect s ≡ record (answered s SUCCESS 0) { bytes = w.bytes; events = w.events; images = map (λ (event : TelemetryEvent). None) w.events; shown = Housekeeping; next = record s { tables = tables; drawer = w.drawer } }
 unfolding dumps_ended housekeeping_effect

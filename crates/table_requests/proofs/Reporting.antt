@@ -1,4 +1,4 @@
--- What stays where a report names a table.
+-- What stays when a report names a table.
 use Rattle.std.proofs.Common.{ℕ, List, Some, refl}
 use Rattle.tbl_kinds.specs.declared.entry.Answer.{Answer}
 use Rattle.tbl_model.specs.State.{State}

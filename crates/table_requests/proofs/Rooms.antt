@@ -1,4 +1,4 @@
--- How many events a request tells at most.
+-- How many events a request reports at most.
 use Rattle.std.proofs.Common.{◌≡◌, ◌+◌, ◌*◌, ◌≤◌, ℕ, zero, suc, List, [], ◌∷◌, length, Bool, true, false, cond, not, Option, Some, None, is_some, Result, Ok, Err, IfOk, slice_index_or, slice_set, refl, sym, ap, ◌∙◌, arith}
 use Rattle.std.proofs.lemmas.List.{length-append}
 use Rattle.std.specs.Option.{option_map, option_map_or}
@@ -53,7 +53,7 @@ file_few s name given row t file =
 
 -- ---- updates
 
--- what stands at a place, and what is put there
+-- what is at a place, and what is put there
 set_there : {X : Type 0} (xs : List (Option X)) (n : ℕ) (x : X) (y : Option X) → slice_index_or xs n None ≡ Some x → slice_index_or (slice_set xs n y) n None ≡ y
 set_there [] n x y is = absurd (cc is)
 set_there (z ∷ xs) zero x y is = refl

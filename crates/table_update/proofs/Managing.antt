@@ -86,7 +86,7 @@ module _ (row : ℕ) (t : Table) where
       → then_update row d ≡ then_updated row u true (record d { state = record d.state { tables = set_time row d.state.seconds d.state.sub new } })
   update_made d u new there none is = rw (is, there, none) refl
 
-  -- a mark isn't told
+  -- a mark isn't reported
   pub same_update : (second : Option Judgement) (d : Done) → then_updated row (marked_table second t) true d ≡ then_updated row t true d
   same_update None d = refl
   same_update (Some j) d = let image = same_load_image (is_good j.verdict) t.load in rw image refl
@@ -110,7 +110,7 @@ module _ (row : ℕ) (t : Table) where
   made_by true None = refl
   made_by true (Some handle) = refl
 
-  -- the answer tells whether the update was made
+  -- the answer says whether the update was made
   pub made_is : (tables : Tables) → is_updated (answer_by (update_refusal tables row t)) ≡ is_none (update_refusal tables row t)
   made_is tables = made_by t.activation (locker tables row t)
 
@@ -207,7 +207,7 @@ module _ (s : State) (given : Given) (row : ℕ) (t : Table) (first second : Opt
       by (Some j) None = refl
       by (Some j) (Some k) = refl
 
-  -- it is told by the judgements and by whether the update was made
+  -- it is reported by the judgements and by whether the update was made
   told : (made : Bool) (st next : State) (answer : Answer) (bits : ℕ) → managed_effect s answer (record (then_updated row t made (record after_both { state = st })) { state = next; bits = bits })
       ≡ managed_effect s answer (record (then_updated row t made (then_judged row t second (then_judged row t first (nothing_done s)))) { state = next; bits = bits })
   told made st next answer bits = by first second made

@@ -1,4 +1,4 @@
--- What is there where nothing is missing.
+-- What is there if nothing is missing.
 use Rattle.std.proofs.Common.{◌≡◌, ◌<◌, ◌==◌, Bool, true, false, Option, Some, None, IsSome, is_some, refl, arith}
 use Rattle.std.proofs.lemmas.Bool.Decides.{nat_tests}
 use Rattle.tbl_model.specs.State.{Load, Table}

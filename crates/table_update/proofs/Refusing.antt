@@ -1,4 +1,4 @@
--- What refuses isn't done, and what is there where nothing refuses.
+-- What refuses isn't done, and what is there if nothing refuses.
 use Rattle.std.proofs.Common.{◌≡◌, ℕ, List, Bool, true, false, not, ◌||◌, cond, Option, Some, None, IsSome, is_some, refl, sym, subst}
 use Rattle.tbl_kinds.specs.Statuses.{is_success}
 use Rattle.tbl_model.specs.State.{Load, Table, Tables}
@@ -43,7 +43,7 @@ unlocked : (lock : Option ℕ) → lock_refusal lock ≡ None → lock ≡ None
 unlocked None none = refl
 unlocked (Some handle) none = absurd (cc none)
 
--- where the activation of a load can be requested, the load is open, and no validation of it is pending
+-- if the activation of a load can be requested, the load is open, and no validation of it is pending
 pub may_ask : (pending : List (ℕ × Bool)) (row : ℕ) (t : Table) → activation_refusal pending row t ≡ None → IsSome t.load × (is_pending row false pending ≡ false)
 may_ask pending row t none =
     let a = passed (is_dump_only t) _ _ none in
@@ -52,7 +52,7 @@ may_ask pending row t none =
     let d = passed (is_pending row false pending) _ _ c.1 in
     (some_load t.load b.0, d.0)
 
--- where an update can be made, the activation was requested, and no handle is in the way
+-- if an update can be made, the activation was requested, and no handle is in the way
 pub may_update : (tables : Tables) (row : ℕ) (t : Table) → update_refusal tables row t ≡ None → (t.activation ≡ true) × (locker tables row t ≡ None)
 may_update tables row t none =
     let a = passed (not t.activation) _ _ none in

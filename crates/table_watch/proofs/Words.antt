@@ -5,7 +5,7 @@ use Rattle.std.specs.Str.{bytes_eq}
 use Rattle.table_watch.specs.Looks.{known_after, latest_word}
 use Rattle.table_watch.specs.declared.watch.Look.{Look}
 
--- the map knows what the looks tell, and after its entry for the next look it still does
+-- the map knows what the looks say, and after its entry for the next look it still does
 pub known_next : (before after : List ℕ → Option ℕ) (looks : List Look) (look : Look)
     → ((name : List ℕ) → before name ≡ latest_word looks name)
     → ((name : List ℕ) → after name ≡ (if bytes_eq look.name name then Some look.word else before name))

@@ -1,4 +1,4 @@
--- What a step does before it plays: functions are handed in, and what the service stands for goes on.
+-- What a step does before it plays: functions are handed in, and what the service represents goes on.
 use Rattle.std.proofs.Common.{◌≡◌, ◌≢◌, ◌∙◌, ◌⊎◌, inl, inr, ℕ, eqb, List, [], ◌∷◌, Bool, true, false, ◌&&◌, cond, Option, Some, None, option_map, IsSome, refl, sym, ap, subst}
 use Rattle.std.proofs.Common.{ℤ}
 use Rattle.std.specs.List.{AllByRecursion}
@@ -17,7 +17,7 @@ use Rattle.handed_kit.specs.Answering.{Spoken, answer_of, one_verdict, two_verdi
 use Rattle.tbl_core.specs.Asking.{Asks, StandsOn}
 use Rattle.tbl_c.specs.Serving.{Serving, second_of, Said, WillSay}
 
--- ---- what the service stands for
+-- ---- what the service represents
 
 module _ (g : Ghosts (List ℕ)) where
   pub on_still : (s : Serving) → StandsOn g s s
@@ -82,7 +82,7 @@ module _ (number : ℕ) (check : Spoken) (old new : List (Option (KitEntry Spoke
   stood P holds None = λ entry is. absurd (cc is)
   stood P holds (Some e) = λ entry is. subst (λ (it : KitEntry Spoken). P it.check) (same_Some (with_check check e) entry is) holds
 
-  -- what stands under the number is this function
+  -- what has the number is this function
   pub stands_there : (P : Spoken → Type 0) → P check → ForSome (entry_at new number) (λ entry. P entry.check)
   stands_there P holds = subst (λ (found : Option (KitEntry Spoken)). ForSome found (λ entry. P entry.check)) (sym hands.this) (stood P holds (entry_at old number))
 

@@ -29,7 +29,7 @@ use Rattle.tbl_core.proofs.TableRequests.{table_makes, table_meets}
 use Rattle.tbl_outside.specs.declared.bank.Bank.{Ghosts}
 use Rattle.tbl_outside.specs.declared.validator.Validator.{Ghosts as ValidatorGhosts}
 
--- without a call of the store no answer tells of a stop
+-- without a call of the store no answer reports a stop
 pub not_stopped : (status : Status) (note : BankNote) → note ≡ untouched → HasCause status note → (status.0 == INFO_STOPPED.0) ≡ false
 not_stopped status note none cause = by (status.0 == INFO_STOPPED.0) refl where
   by : (b : Bool) → (status.0 == INFO_STOPPED.0) ≡ b → (status.0 == INFO_STOPPED.0) ≡ false
@@ -48,7 +48,7 @@ module _ {B C : Type 0} (g : Ghosts B) (v : ValidatorGhosts C) (old new : PartsV
       (rw none (record { fault_count = omega arith; stop_count = omega arith; fault = inl (omega arith); stop = inl (omega arith); no_fault = λ _. refl; no_stop = λ _. refl }))
       (λ stop. absurd (cc (stop, none)))
 
--- a request about tables was done of which no packet tells
+-- a request about tables was done that no packet reports
 module _ {B C : Type 0} (g : Ghosts B) (v : ValidatorGhosts C) (old new : Moment B C)
     (same_actor : new.entry.actor ≡ old.entry.actor) (same_request : new.entry.request ≡ old.entry.request) (silent : IsSilent new.entry.request)
     (does : Does v 0 old.parts new.parts (λ s given. effect_of s new.entry.actor new.entry.request given) (effect_in new.entry nothing_reported))
@@ -74,7 +74,7 @@ module _ {B C : Type 0} (g : Ghosts B) (v : ValidatorGhosts C) (old new : Moment
     small = record { bytes = does.within.bytes; packets = rw no_packets (omega arith) };
   }
 
--- what holds where a request was answered
+-- what holds if a request was answered
 pub when_answered : {B C E : Type 0} (g : Ghosts B) (v : ValidatorGhosts C) (old new : Moment B C) (report : Reported) (r : Result Unit E) → false ≡ is_err r → Answered g v old new report r → Answers g v old new report
 when_answered g v old new report (Ok x) is answers = answers
 when_answered g v old new report (Err e) is kept = absurd (cc is)

@@ -1,4 +1,4 @@
--- A request was made: what it did, and the boot after it where a call of the store was stopped.
+-- A request was made: what it did, and the boot after it if a call of the store was stopped.
 use Rattle.std.proofs.Common.{◌≡◌, ◌≢◌, ◌∙◌, ℕ, suc, List, false, not, Option, Some, None, refl, sym, ap, subst, inl}
 use Rattle.tbl_kinds.specs.Blocks.{Store as Blocks}
 use Rattle.tbl_kinds.specs.StoreCalls.{StoreCall}

@@ -1,4 +1,5 @@
--- A call of a table's owner, after which an image that went active was copied: what is made of it, over any bank and over one that tells.
+-- A call of a table's owner, after which an image that went active was copied: what is made of it, over any bank and over one that shows
+-- its bytes.
 use Rattle.std.proofs.Common.{◌≡◌, ◌∙◌, ℕ, suc, List, [], ◌∷◌, length, true, false, not, Option, Some, None, ℤ, refl, sym, ap, subst, ◌⊎◌, inl, inr, arith}
 use Rattle.std.specs.Option.{option_map}
 use Rattle.std.proofs.lemmas.Bool.{cond_both}
@@ -142,7 +143,7 @@ module _ {B C : Type 0} (g : Ghosts B) (v : ValidatorGhosts C) (old new : PartsV
   goes : new.ended ≡ false
   goes = sym left.3.ended ∙ (ordinary_left ready.fit.0 ready.fit.1).live (rw does.does.note refl)
 
-  -- what was answered before the copy tells of no trouble
+  -- what was answered before the copy reports no trouble
   quiet : HasCause does.before.answer.status untouched
   quiet = subst (HasCause does.before.answer.status) does.does.note (subst (λ (status : Status). HasCause status does.before.note) left.2.status (subst (OfEffect (λ e. HasCause e.status does.before.note)) whole (caused (state_of old) (given_of does.before) actor request)))
 

@@ -1,4 +1,4 @@
--- A request was done, by what is told of its effect.
+-- A request was done, by what is reported of its effect.
 use Rattle.std.proofs.Common.{◌≡◌, ℕ, [], ◌∷◌, length, Option, Some, None, ap, refl, arith}
 use Rattle.tbl_model.specs.State.{State}
 use Rattle.tbl_model.specs.Effects as model
@@ -24,7 +24,7 @@ module _ {B C : Type 0} (v : ValidatorGhosts C) (most : ℕ) (old new : PartsVie
     within = within;
   }
 
-  -- and no more is told than the answer
+  -- and only the answer is reported
   pub quietly : IsQuiet done → Does v most old new means done
   quietly quiet = plainly (record {
     events = rw quiet.events (omega arith);

@@ -7,7 +7,7 @@ use Rattle.std.proofs.lemmas.Option.{same_Some}
 use Rattle.tbl_outside.specs.declared.validator.KitEntry.{KitEntry}
 use Rattle.tbl_core.specs.Service.{AskedBelow}
 
--- where each was asked fewer times than this, so was what stands under each number
+-- if each was asked fewer times than this, so was what has each number
 pub seldom_asked : {C : Type 0} (asked : C → ℕ) (most : ℕ) (entries : List (KitEntry C)) → All (λ (e : KitEntry C). asked e.check < most) entries → AskedBelow asked most (map (λ entry. Some entry) entries)
 seldom_asked asked most entries few number entry there = elim (cases_lt number (length entries)) [
   | inl is ↦

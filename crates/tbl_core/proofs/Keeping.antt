@@ -1,4 +1,4 @@
--- The verdicts that a history tells are those that the functions it began with give on the very images.
+-- The verdicts that a history has are those that the functions it began with give on the very images.
 use Rattle.std.proofs.Common.{◌≡◌, ◌∙◌, ℕ, zero, suc, List, [], ◌∷◌, ◌++◌, Option, Some, None, IsSome, ℤ, pos, refl, subst}
 use Rattle.std.specs.Prelude.{slice_get, slice_index_or, unwrap_or}
 use Rattle.std.specs.Option.{ForSome, option_and_then, option_map_or}

@@ -30,7 +30,7 @@ lent_is engine past handle pin after within is = by (pinned_image handle engine.
         image = λ other there by_it. same_Some other image (sym there ∙ at);
       })
 
--- bytes that were taken of it are what a read gives, where the handle still pins by the call that it was lent for
+-- bytes that were taken of it are what a read gives, if the handle still pins by the call that it was lent for
 pub slice_is : {B C : Type 0} (v : ValidatorGhosts C) (engine : EngineView B C) (pin : Pin) (request : Request) (slice : List ℕ) → IsReady v engine → MayStillPin pin engine → place_in engine.gets pin.handle ≡ pin.place → IsSliceOf pin request slice → MayBeLent request engine.state.tables slice
 slice_is v engine pin (ask.Read handle offset len) slice ready is same of = λ bytes gives.
     let gives' : read pin.handle offset len engine.state.tables ≡ Ok bytes = subst (λ (n : ℕ). read n offset len engine.state.tables ≡ Ok bytes) of.0 gives in
@@ -43,7 +43,7 @@ pub lent_each : {B C : Type 0} (engine : EngineView B C) (handle : ℕ) (lent : 
 lent_each engine handle None is within = tt
 lent_each engine handle (Some pin) is within = λ past after. lent_is engine past handle pin after within (sym is)
 
--- and so behind the history that a core keeps
+-- and so after the history that a core keeps
 pub lent_behind : {B C : Type 0} (engine : EngineView B C) (past : List Entry) (lent : Option Pin) → IsAfter past engine → IfSome lent (λ (pin : Pin). (past : List Entry) → IsAfter past engine → IsOfPin pin (core_of past engine)) → IfSome lent (λ (pin : Pin). IsOfPin pin (core_of past engine))
 lent_behind engine past None after is = tt
 lent_behind engine past (Some pin) after is = is past after

@@ -1,4 +1,4 @@
--- A request of which no packet tells adds nothing to what telemetry counts.
+-- A request that no packet reports adds nothing to what telemetry counts.
 use Rattle.std.proofs.Common.{◌≡◌, ◌∙◌, ◌+◌, ◌%◌, ◌<◌, ℕ, [], ◌&&◌, Bool, true, false, cond, None, refl, sym, ap, arith}
 use Rattle.std.proofs.Math.Nat.{mod-lt, mod-eq_of_lt}
 use Rattle.tbl_kinds.specs.Statuses.{is_success}
@@ -100,7 +100,7 @@ none_counted = record {
   notices = omega arith;
 }
 
--- ---- what is told
+-- ---- what is reported
 
 module _ (seconds sub : ℕ) (tables : Tables) (request : Request) (done : Effect) (quiet : IsSilent request)
     (goes : is_stopped (without_images done (seen_at seconds sub tables)) ≡ false) (no_events : done.events ≡ []) (no_shown : done.shown ≡ Nothing) (no_notice : done.notice ≡ None) where

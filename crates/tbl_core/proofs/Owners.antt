@@ -79,7 +79,7 @@ module _ (s : State) (app handle : ℕ) (given : Given) where
         by (ask.Notify h msg code parameter) is = done_to h is (λ row t. noticed_effect s row msg code parameter)
         by request is = absurd (cc is)
 
--- which call it is tells whether anything is copied after it
+-- which call it is decides whether anything is copied after it
 pub not_copied : (request : Request) (row : ℕ) (note : BankNote) (o : Option Effect) → activates request ≡ false → copied_at request row note o ≡ o
 not_copied (ask.LoadImage h image) row note o never = absurd (cc never)
 not_copied (ask.LoadFile h name) row note o never = absurd (cc never)
@@ -94,7 +94,7 @@ is_copied (ask.Update h) row note o can = refl
 is_copied (ask.Manage h) row note o can = refl
 is_copied request row note o can = absurd (cc can)
 
--- an effect that leaves a state which the parts stand for
+-- an effect that leaves a state which the parts represent
 pub leaves_of : {B C : Type 0} (blocks : Blocks) (done : Done) (new : PartsView B C) (questions : List Question) (e : Effect) (after : State) → IsEffect done questions after e → IsStateOf blocks new after → Leaves blocks done new (Some e)
 leaves_of blocks done new questions e after is stands = (
   record {
@@ -112,7 +112,7 @@ leaves_of blocks done new questions e after is stands = (
   subst (IsStateOf blocks new) (sym is.next) stands,
 )
 
--- an owner's call that is answered so, leaves this state, and that no packet tells of
+-- an owner's call that is answered so, leaves this state, and that no packet reports
 module _ {B C : Type 0} (v : ValidatorGhosts C) (old new : PartsView B C) (app handle row : ℕ) (request : Request) (owners : owners_handle request ≡ Some handle) (plain : activates request ≡ false)
     (t : Table) (there : table_at old.tables row ≡ Some t) (may : (s : State) → IsStateOf s.store old s → (effect : ℕ → Effect) → if_handle s app handle true effect ≡ effect row)
     (answer : Answer) (after : State → State) (is : (s : State) → IsStateOf s.store old s → owned_effect s row t request nothing_given ≡ Some (answered_left s answer (after s)))
@@ -133,7 +133,7 @@ owner_refused v old app handle request owners status answer same plain never = d
     (λ s stood. refused s app handle nothing_given status (never s stood) request owners ∙ (λ i. Some (answered s (sym same i) (sym plain i))))
     (λ s stood. stood) (none_judged v old.kit [] untouched (None ∷ None ∷ []) refl refl) refl
 
--- what was done to the table of a handle that leads there is what the application requested, where nothing is copied after it
+-- what was done to the table of a handle that leads there is what the application requested, if nothing is copied after it
 pub leads_plainly : {B C : Type 0} (v : ValidatorGhosts C) (most : ℕ) (old new : PartsView B C) (actor : Actor) (row : ℕ) (request : Request) (done : Done) → LeadsTo old actor request row → activates request ≡ false
     → Does v most old new (owned_in row request) done → Does v most old new (λ s given. effect_of s actor request given) done
 leads_plainly v most old new actor row request done leads plain does = record {
@@ -155,7 +155,7 @@ leads_to old app handle row request owners t there may = record {
   means = λ s stood given. taken s app handle given row t (may s stood) (ap (λ (tables : Tables). table_at tables row) stood.tables ∙ there) request owners;
 }
 
--- whoever asks for what packets tell of is an owner
+-- whoever asks for what packets report is an owner
 pub told_owners : (request : Request) (handle : ℕ) → told_handle request ≡ Some handle → owners_handle request ≡ Some handle
 told_owners (ask.LoadImage h image) handle is = is
 told_owners (ask.LoadFile h name) handle is = is
@@ -166,7 +166,7 @@ told_owners request handle is = absurd (cc is)
 
 -- ---- results
 
--- what holds where a call was done holds of what it gave
+-- what holds if a call was done holds of what it gave
 pub on_ok : {X Y : Type 0} (P : Type 0) (r : Result X Y) → OnOk r P → IfOk r (λ x. P)
 on_ok P (Ok x) p = p
 on_ok P (Err y) p = tt

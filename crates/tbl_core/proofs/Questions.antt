@@ -1,4 +1,4 @@
--- What a request asks doesn't depend on what is given to it, and functions that are handed in leave what the engine stands for.
+-- What a request asks doesn't depend on what is given to it, and functions that are handed in leave what the engine represents.
 use Rattle.std.proofs.Common.{◌≡◌, ◌≢◌, ◌∙◌, ℕ, ◌+◌, ◌*◌, ◌^◌, ◌<◌, List, [], ◌∷◌, Bool, true, false, Option, Some, None, IsSome, option_map, refl, sym, ap, subst, inl, inr, arith}
 use Rattle.std.specs.Option.{ForSome}
 use Rattle.std.proofs.lemmas.Bool.{cases_eq, cond_both}
@@ -122,7 +122,7 @@ asks_of g engine actor request questions it = record {
   others = it.others;
 }
 
--- a count of images that is taken anew
+-- a count of images that is taken again
 pub recount_on : {B C : Type 0} (g : Ghosts B) (engine : EngineView B C) → StandsOn g engine (recounted engine)
 recount_on g engine = record {
   stands = λ opening past was. record { legal = was.legal; shows = was.shows };

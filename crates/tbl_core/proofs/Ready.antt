@@ -14,7 +14,7 @@ use Rattle.tbl_core.specs.Service.{EngineView, image_limit, IsReset, HasRoom, Is
 use Rattle.table_requests.specs.Limits.{AreCounted, AreSendable}
 use Rattle.tbl_outside.specs.declared.validator.Validator.{Ghosts as ValidatorGhosts}
 
--- whose function it is stands at its number
+-- whose function it is, by its number
 owner_of_entry : {C : Type 0} (kit : List (Option (KitEntry C))) (number : ℕ) → owner_at (owners kit) number ≡ option_map (λ (e : KitEntry C). e.app) (entry_at kit number)
 owner_of_entry [] number = refl
 owner_of_entry (x ∷ kit) zero = refl

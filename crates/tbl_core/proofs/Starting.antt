@@ -20,7 +20,7 @@ use Rattle.tbl_outside.specs.declared.validator.KitEntry.{KitEntry}
 use Rattle.tbl_core.specs.Service.{EngineView, Stands, start_fault, StartCounted}
 use Rattle.tbl_outside.specs.declared.bank.Bank.{Ghosts}
 
--- nothing is registered, runs, is kept or pending, and nothing was told
+-- nothing is registered, runs, is kept or pending, and nothing was reported
 pub record IsNew {B C : Type 0} (kit : List (Option (KitEntry C))) (admit : Admitted) (engine : EngineView B C) : Type 0 where
   pub counts : engine.counts ≡ no_counts
   pub tables : engine.state.tables ≡ no_tables
@@ -33,7 +33,7 @@ pub record IsNew {B C : Type 0} (kit : List (Option (KitEntry C))) (admit : Admi
   pub sub : engine.state.sub ≡ 0
   pub live : engine.state.ended ≡ false
 
--- then it stands for the first state, over the blocks for which its store stands
+-- then it represents the first state, over the blocks that its store represents
 pub stands_first : {B C : Type 0} (g : Ghosts B) (kit : List (Option (KitEntry C))) (admit : Admitted) (blocks : Blocks) (engine : EngineView B C) → IsNew kit admit engine → (g.tells → HasBlocks g.tells g.now engine.state.store blocks) → Stands g (first_state blocks (owners kit) admit) [] engine
 unfolding counts_of
 stands_first g kit admit blocks engine new has = record {
@@ -75,7 +75,7 @@ start_leaves {B} g made booted bank same moments tells_both told =
     subst (λ (b : B). LeavesOnly g.clock g.left_since b booted.bank (ShowsIn (store_of (g.now b)))) same
     (leaves_among (moments told (store_of (g.now made.bank)) (inr (tells_both told, refl))) (λ image left. ⊎_elim (λ shows. shows) (λ power_on. absurd (cc power_on.0)) left))
 
--- and where nothing was done to the bank
+-- and if nothing was done to the bank
 pub stays_shown : {B : Type 0} (g : Ghosts B)
     (holds : (bank : B) (image : List ℕ) → g.tells_moments → g.may_leave bank image → image ≡ g.now bank) (only : (bank : B) (image : List ℕ) → g.tells_moments → g.left_since bank (g.clock bank) image → g.may_leave bank image)
     (bank : B) → g.tells_moments → LeavesOnly g.clock g.left_since bank bank (ShowsIn (store_of (g.now bank)))

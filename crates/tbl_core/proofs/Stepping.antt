@@ -64,7 +64,7 @@ module _ {B C : Type 0} (g : Ghosts B) (v : ValidatorGhosts C) (tells_both : g.t
 
 -- ---- a core, which keeps the past as its log
 
--- the log is still what the engine played, also where memory ran out
+-- the log is still what the engine played, also if memory ran out
 pub still_after : {B C : Type 0} (g : Ghosts B) (v : ValidatorGhosts C) (log entries : List Entry) (old new : EngineView B C) (actor : Actor) (request : Request) (result : Result Unit StepFault)
     → OnPlayed result (Enters (λ x. Steps g v old new (actor, request) x result) log entries) → (result ≡ Err Memory → entries ≡ log) → (result ≡ Err Memory → new ≡ old) → IsAfter log old → IsAfter entries new
 still_after g v log entries old new actor request (Ok x) d same_log same was = subst (λ (es : List Entry). IsAfter es new) (sym d.1) (d.2.after log was)

@@ -52,7 +52,7 @@ same_but_images done e is = λ i. record {
   next = e.next;
 }
 
--- telemetry doesn't tell images, questions and calls, nor more of the state than the time and the tables
+-- telemetry doesn't report images, questions and calls, nor more of the state than the time and the tables
 module _ (done : Effect) (seconds sub : ℕ) (actor : Actor) (request : Request) (s : State) (e : model.Effect) (is : IsEffect done e.questions e.next (uncalled e)) (same_seconds : s.seconds ≡ seconds) (same_sub : s.sub ≡ sub) where
   tally_same : (tables : Tables) → tally_of (told s actor request e) ≡ tally_of (told_at seconds sub tables request done)
   tally_same tables = rw (same_but_images done e is, ← same_seconds, ← same_sub) refl
@@ -62,7 +62,7 @@ module _ (done : Effect) (seconds sub : ℕ) (actor : Actor) (request : Request)
 
 -- ---- one request
 
--- what it keeps behind a past, as far as pins are concerned
+-- what it keeps after a past, of what pins need
 abbrev pub kept_of : {B C : Type 0} → List Entry → EngineView B C → Kept
 kept_of past engine = record { entries = past; tables = engine.state.tables; gets = engine.gets }
 
@@ -89,7 +89,7 @@ module _ {B C : Type 0} (g : Ghosts B) (v : ValidatorGhosts C) (old new : Engine
   abbrev made : IsMade g v (step_of old.state new.state did.entry.request) (λ s given. effect_of s did.entry.actor did.entry.request given) (effect_in did.entry did.report)
   made = did.answers.made
 
-  -- its effect, whatever run the core stood for
+  -- its effect, whatever run the core represented
   left : g.tells → (r : Run) → Shows g old.state old.counts r → (e : model.Effect) × (effect_of r.state entry.actor entry.request (given_of done) ≡ Some e) × HadEffect g v (step_of old.state new.state entry.request) r.state done e
   left told r shown = made.effect told r.state shown.state
 
@@ -152,7 +152,7 @@ module _ {B C : Type 0} (g : Ghosts B) (v : ValidatorGhosts C) (old new : Engine
     places = ap length did.gets ∙ all_places old.gets old.played entry.reply.status entry.request ∙ did.ready.places;
   }
 
-  -- ---- behind a past
+  -- ---- after a past
 
   module _ (past : List Entry) (before : IsAfter past old) where
     changed : Changed (kept_of past old) (kept_of (past ++ entry ∷ []) new) entry
@@ -193,7 +193,7 @@ module _ {B C : Type 0} (g : Ghosts B) (v : ValidatorGhosts C) (old new : Engine
 
 -- ---- the history
 
--- a step that played a request leads from each opening and past that the engine stood for to one that it stands for
+-- a step that played a request leads from each opening and past that the engine represented to one that it represents
 module _ {B C : Type 0} (g : Ghosts B) (v : ValidatorGhosts C) (old new : EngineView B C) (actor : Actor) (request : Request) (e : Entry) (result : Result Unit StepFault)
     (p : Plays g v old new (actor, request) e result) (opening : State) (past : List Entry) (stood : Stands g opening past old) where
   goes_on : g.tells → AreAnswered (begins_at opening) (past ++ e ∷ []) × Shows g new.state new.counts (run_from (begins_at opening) (past ++ e ∷ []))

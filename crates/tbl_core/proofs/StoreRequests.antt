@@ -57,7 +57,7 @@ pub no_boot_at : (request : Request) → is_reset request ≡ false → (boot_in
 no_boot_at (ask.Reset kind) plain = absurd (cc plain)
 no_boot_at request plain = (refl, refl, refl)
 
--- with what a boot after it told, where it was stopped
+-- with what a boot after it reported, if it was stopped
 module _ (request : Request) (plain : is_reset request ≡ false) (called : BankNote) (no_boot : NoBoot called) (left : Blocks) (ended stopped : Bool) (found : List ℕ) (same : called.outcome ≢ Stopped → with_boot ended stopped found called ≡ called) where
   abbrev told_note : BankNote
   told_note = with_boot ended stopped found called
@@ -150,7 +150,7 @@ module _ {B C : Type 0} (g : Ghosts B) (v : ValidatorGhosts C) (old new : PartsV
           pins = λ has. kept_pins old.tables new.tables has request done.answer.status keeps none;
         }
 
-    -- where the model's effect is this
+    -- if the model's effect is this
     pub call_meets : (means : State → BankNote → model.Effect) (calls : g.tells → (s : State) → HoldsAll g old s → Calls g old.store new.store (record s { tables = new.tables }) done (means s)) (plain : is_reset request ≡ false)
         (gave : g.tells → (s : State) → HoldsAll g old s → GaveAsHeld g old.store s.store done (means s))
         → Meets g v (step_of old new request) (λ s given. Some (means s given.note)) done

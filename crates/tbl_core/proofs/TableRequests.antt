@@ -1,4 +1,4 @@
--- A request about tables was made: the parts stand for the state that it leaves, over the same blocks.
+-- A request about tables was made: the parts represent the state that it leaves, over the same blocks.
 use Rattle.std.proofs.Common.{◌≡◌, ◌≤◌, ◌∙◌, ℕ, suc, List, [], false, not, Option, Some, None, ℤ, refl, sym, ap, subst, inl, arith}
 use Rattle.tbl_kinds.specs.Notes.{untouched}
 use Rattle.tbl_kinds.specs.Blocks.{Store as Blocks}
@@ -39,9 +39,9 @@ use Rattle.request_effects.specs.Effects.{Effect}
 use Rattle.tbl_outside.specs.declared.bank.Bank.{Ghosts}
 use Rattle.tbl_outside.specs.declared.validator.Validator.{Ghosts as ValidatorGhosts}
 
--- ---- what the parts stand for
+-- ---- what the parts represent
 
--- over these blocks they stand for such a state
+-- over these blocks they represent such a state
 pub stands_in : {B C : Type 0} (held : PartsView B C) → IsStateOf [] held (state_of held)
 stands_in held = record { tables = refl; pending = refl; store = refl; drawer = refl; apps = refl; kit = refl; admit = refl; seconds = refl; sub = refl; ended = refl }
 
@@ -66,7 +66,7 @@ fit_without n blocks s fit = record { each = fit.each; few_pending = fit.few_pen
 
 -- ---- requests about tables
 
--- the effect after which the parts stand for this
+-- the effect after which the parts represent this
 pub effect_left : {B C : Type 0} (blocks : Blocks) (done : Effect) (held : PartsView B C) (found : Option model.Effect) → Leaves blocks done held found → (e : model.Effect) × (found ≡ Some e) × (IsEffect done e.questions e.next e) × (IsStateOf blocks held e.next)
 effect_left blocks done held None leaves = absurd leaves
 effect_left blocks done held (Some e) leaves = (e, refl, leaves.0, leaves.1)

@@ -34,7 +34,7 @@ pub store_no_get : (request : Request) → asks_store request None ≡ true → 
 store_no_get (ask.Get handle) asks n = absurd (cc asks)
 store_no_get request asks n = refl
 
--- nor is a call of which packets tell, which is no command either
+-- nor is a call that packets report, which is no command either
 pub told_no_reset : (request : Request) → IsSome (told_handle request) → is_reset request ≡ false
 told_no_reset (ask.Reset kind) some = absurd (cc some)
 told_no_reset request some = refl

@@ -18,7 +18,7 @@ rose_on a b x y z up further (inr top) (inl second) = inr (omega (arith, top, fu
 rose_on a b x y z up further first (inr top) = inr top
 
 module _ {B : Type 0} (g : Ghosts B) (old mid new : B) where
-  -- what two notes tell, one after another
+  -- what two notes say, one after another
   pub troubled_on : (first second both : BankNote) → faults_in both ≡ faults_in first + faults_in second → stops_in both ≡ stops_in first + stops_in second
       → Troubled g old mid first → Troubled g mid new second → Troubled g old new both
   troubled_on first second both all_faults all_stops one other =
@@ -48,7 +48,7 @@ module _ {B : Type 0} (g : Ghosts B) (old mid new : B) where
         let same : note.outcome ≡ Stopped = ap (λ (n : BankNote). n.outcome) follows.is ∙ is in
         troubled_on called (boot_only called.outcome note) note (rw (is, same, no_boot.ended) (omega arith)) (rw (is, same, no_boot.ended) (omega arith)) one other
 
--- an answer has its cause in what the calls left, and so in what a boot after them told more
+-- an answer has its cause in what the calls left, and so in what a boot after them added
 pub caused_after : (status : Status) (called note : BankNote) → Follows called note → (called.outcome ≡ Stopped → NoBoot called) → HasCause status called → HasCause status note
 caused_after status called note follows fresh cause = by called.outcome refl where
   by : (outcome : Outcome) → called.outcome ≡ outcome → HasCause status note

@@ -35,7 +35,7 @@ module _ {C : Type 0} (verdict : C → List ℕ → ℤ) where
   few_questions kit (q ∷ more) (Some v ∷ verdicts) gives = let rest = few_questions kit more verdicts gives.1 in omega (arith, rest)
 
 module _ {C : Type 0} (v : ValidatorGhosts C) where
-  -- what stands under a number after an entry was there before it, and counts what it was asked
+  -- what has a number after an entry was there before it, and counts what it was asked
   pub was_there : (times : ℕ) (old new : Option (KitEntry C)) (entry : KitEntry C) → new ≡ Some entry → (new ≡ None) ⊎ Stays v.verdict v.asked times old new
       → (before : KitEntry C) × (old ≡ Some before) × ((image : List ℕ) → v.verdict entry.check image ≡ v.verdict before.check image) × (v.asked entry.check ≡ v.asked before.check + times)
   was_there times old new entry there (inl gone) = absurd (cc (there, gone))
@@ -64,7 +64,7 @@ module _ {C : Type 0} (v : ValidatorGhosts C) where
       let unsaid : verdicts ≡ None ∷ None ∷ [] = ap (λ (g : Given). g.verdicts) given in
       rw (none, unsaid) (was_judged kit kit [] (None ∷ None ∷ []) (asked_nothing v.verdict v.asked kit))
 
-  -- where an application's are dropped, each that still stands is one that stood there
+  -- if an application's are dropped, each that is still there was there before
   kept_there : (app : ℕ) (found : Option (KitEntry C)) → (unless_of app found ≡ None) ⊎ Stays v.verdict v.asked 0 found (unless_of app found)
   kept_there app None = inl refl
   kept_there app (Some entry) = by (entry.app == app)

@@ -19,7 +19,7 @@ use Rattle.tbl_outside.specs.declared.bank.Bank.{Ghosts}
 use Rattle.tbl_outside.specs.declared.validator.Validator.{Ghosts as ValidatorGhosts}
 
 module _ {C : Type 0} (verdict : C → List ℕ → ℤ) where
-  -- what stands in the kit gives what the first function gives
+  -- what is in the kit gives what the first function gives
   gives_first : (first entry : Option (KitEntry C)) (image : List ℕ) (v : ℤ) → IsOf verdict first entry → IsSome entry × ForSome entry (λ e. v ≡ verdict e.check image) → IsSome first × ForSome first (λ e. v ≡ verdict e.check image)
   gives_first first None image v of gives = absurd (cc gives.0)
   gives_first None (Some entry) image v of gives = absurd of
@@ -43,7 +43,7 @@ module _ {C : Type 0} (verdict : C → List ℕ → ℤ) where
   same_function None = tt
   same_function (Some entry) = λ image. refl
 
-  -- whoever stands for an opening vouches for the functions that it began with
+  -- whoever represents an opening vouches for the functions that it began with
   pub vouch_first : {B : Type 0} (g : Ghosts B) (given : List (Option (KitEntry C))) (opening : State) (core : CoreView B C) → core.entries ≡ [] → core.state.kit ≡ given → FollowsFrom g opening core → Vouches g verdict given opening core
   vouch_first g given opening core none same stands = record {
     stands = stands;

@@ -33,7 +33,7 @@ abbrev pub owned_at : Option Table → State → ℕ → Request → Given → O
 owned_at None s row request given = None
 owned_at (Some t) s row request given = owned_effect s row t request given
 
--- after a call by which an image can go active, that of a critical table is copied
+-- after a call that can make an image active, that of a critical table is copied
 abbrev pub copied_at : Request → ℕ → BankNote → Option Effect → Option Effect
 copied_at (ask.LoadImage handle image) row note o = option_map (then_copy row note) o
 copied_at (ask.LoadFile handle name) row note o = option_map (then_copy row note) o

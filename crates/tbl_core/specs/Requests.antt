@@ -26,7 +26,7 @@ told_handle (ask.Validate handle) = Some handle
 told_handle (ask.Manage handle) = Some handle
 told_handle _ = None
 
--- a call by which an image of the table can go active
+-- a call that can make an image of the table active
 abbrev pub activates : Request → Bool
 activates (ask.LoadImage handle image) = true
 activates (ask.LoadFile handle name) = true

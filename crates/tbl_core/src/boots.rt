@@ -64,7 +64,7 @@ fn reset_status(note: &BankNote) -> Status
     Status::ERR_BOOT_FAULT
 }
 
-/// Whether a boot ended the service in the request to which this was given.
+/// Whether a boot ended the service in the request with this given.
 #[tactic(auto, using(tbl_kinds::proofs::PlainNotes::plain_goes_on))]
 pub(crate) fn session_end(given: &Given) -> Result<(), StepFault>
     ensures { result ≡ session_end given.now.note }

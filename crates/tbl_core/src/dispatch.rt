@@ -305,7 +305,7 @@ impl<B: Bank, C: Validator> Parts<B, C> {
         }
     }
 
-    /// Does what the owner of the table of a row asks for it, by which an image can go active. If one did and the table is critical, the
+    /// Does what the owner of the table of a row asks for it, which can make an image active. If one did and the table is critical, the
     /// image is copied into its block. The memory for the copy is taken first, as nothing can be taken back then; the copy comes last, so
     /// that no image is kept that didn't go active.
     fn activate(
@@ -342,7 +342,7 @@ impl<B: Bank, C: Validator> Parts<B, C> {
         ))
     }
 
-    /// Does what the owner of the table of a row asks for it, by which an image can go active.
+    /// Does what the owner of the table of a row asks for it, which can make an image active.
     fn owned(
         &mut self,
         row: u8,

@@ -153,7 +153,7 @@ impl<B: Bank, C: Validator> Engine<B, C> {
         self.works.recount();
     }
 
-    /// An entry for this request, to which nothing is answered yet.
+    /// An entry for this request, which isn't answered yet.
     pub fn begin(&self, actor: Actor, request: Request) -> Result<Entry, Memory>
         ensures begun { IfOk result IsBegun }
         ensures actor { IfOk result (λ e. e.actor ≡ actor) }

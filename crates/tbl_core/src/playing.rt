@@ -44,7 +44,7 @@ pub(crate) struct Works<B: Bank, C: Validator> {
     pub images: u32,
 }
 
-/// An entry for this request, to which nothing is answered yet. It has room for one event packet in itself.
+/// An entry for this request, which isn't answered yet. It has room for one event packet in itself.
 pub(crate) fn begun(alloc: Global, actor: Actor, request: Request) -> Result<Entry, Memory>
     ensures begun { IfOk result IsBegun }
     ensures actor { IfOk result (λ e. e.actor ≡ actor) }

@@ -47,7 +47,7 @@ last_of old new e added =
     ap (option_and_then handle_got) (ap (slice_get new) at ∙ there)
 
 module _ {B C : Type 0} where
-  -- where it got one, the handle pins by it
+  -- if it got one, the handle pins by it
   pub pins_last : (old new : CoreView B C) (e : Entry) → new.entries ≡ old.entries ++ e ∷ [] → PinsOnward old new → PinsLast new
   pins_last old new e added onward handle is =
       let long : length new.entries ≡ length old.entries + 1 = ap length added ∙ omega (arith, length-append old.entries (e ∷ [])) in
@@ -71,7 +71,7 @@ module _ {B C : Type 0} where
           pin_is = of;
         }
 
--- a turn by which a request was played
+-- a turn that played a request
 pub plays_next : {B C : Type 0} (g : Ghosts B) (old new : CrewView B C) (actor : ℕ) (turn : Turn) (request : Request) → Takes old new actor request → old.fault ≡ None → new.fault ≡ None
     → AddsOne g old.core new.core (actor_of actor) request (Ok tt) → Lends new.core turn → Turns g old new actor turn
 plays_next g old new actor Played request takes went goes adds lends = record { request = request; takes = takes; went = went; goes_on = goes; adds = adds; lends = lends }
@@ -84,7 +84,7 @@ plays_next g old new actor Done request takes went goes adds lends = absurd lend
 abbrev pub failed : StepFault → Result Unit StepFault
 failed fault = Err fault
 
--- what was lent stays so, also where a step answered a fault
+-- what was lent stays so, also if a step answered a fault
 pub pins_broken : {B C : Type 0} (g : Ghosts B) (old new : CoreView B C) (actor : ℕ) (request : Request) (fault : StepFault) → OnPlayed (Err fault) (AddsOne g old new (actor_of actor) request (Err fault)) → OnPlayed (Err fault) (PinsOnward old new)
     → (failed fault ≡ Err Memory → new ≡ old) → (pin : Pin) → IsOfPin pin old → IsOfPin pin new
 pins_broken g old new actor request Memory adds onward same pin is = subst (λ (core : CoreView _ _). IsOfPin pin core) (sym (same refl)) is

@@ -104,7 +104,7 @@ module _ {B C : Type 0} (g : Ghosts B) (old new : CrewView B C) (actor : ℕ) wh
     stops = stopped result turn;
   }
 
-  -- where it wasn't played, its actor has ended
+  -- if it wasn't played, its actor has ended
   pub ended_now : (result : Turn) → Turns g old new actor result → (result ≡ Ended) ⊎ (result ≡ Done) → HasEnded new actor
   ended_now Played turn other = absurd (elim other [ inl is ↦ cc is | inr is ↦ cc is ])
   ended_now (Pinned pin) turn other = absurd (elim other [ inl is ↦ cc is | inr is ↦ cc is ])

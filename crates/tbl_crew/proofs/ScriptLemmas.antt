@@ -55,7 +55,7 @@ part-other actor other e own apart =
     let no_ : (actor_number e.actor == other) ≡ false = grind (arith, nat_tests) in
     ap (λ (b : Bool). if b then e.request ∷ [] else []) no_
 
--- a script is counted whole, where all of them are within a session
+-- a script is counted whole, if all of them are within a session
 pub all_counted : (scripts : List (List Request)) (actor : ℕ) → request_count scripts ≤ record_limit → min (length (script_of scripts actor)) record_limit ≡ length (script_of scripts actor)
 all_counted scripts actor few = dite (dec_lt actor (length scripts))
     (λ within. omega (arith, few, get_or-le-sum_by length scripts actor [] within))

@@ -1,4 +1,4 @@
--- What a turn leaves of what a crew stands for.
+-- What a turn leaves of what a crew represents.
 use Rattle.std.proofs.Common.{◌≡◌, ℕ, ◌+◌, ◌<◌, ◌≤◌, List, [], ◌∷◌, ◌++◌, length, false, Option, Some, None, Result, Ok, Err, refl, sym, ap, subst, ◌∙◌, arith, ℤ}
 use Rattle.std.specs.Prelude.{◌==◌, is_some}
 use Rattle.std.proofs.lemmas.List.{length-append}
@@ -35,7 +35,7 @@ use Rattle.cds_layout.specs.Images.{store_of}
 abbrev failed : StepFault → Result Unit StepFault
 failed fault = Err fault
 
--- a beginning of a script, where what is left isn't told any more
+-- a beginning of a script, if what is left isn't kept any more
 begins : (fault : StepFault) (script played left : List Request) → IsPlayed None script played left → (f : Option StepFault) → f ≡ Some fault → (behind : List Request) → IsPlayed f script played behind
 begins fault script played left was f is behind = subst (λ (f : Option StepFault). IsPlayed f script played behind) (sym is) (left, was)
 
@@ -95,7 +95,7 @@ module _ {B C : Type 0} (g : Ghosts B) (old new : CrewView B C) (actor : ℕ) (r
   goes_on_broken BootFault is live adds same = goes_on_with (Err BootFault) adds (subst (λ (f : Option StepFault). TellsFault f new.core) (sym is) (ends_in_fault g old.core new.core (actor_of actor) request adds))
   goes_on_broken BootStopped is live adds same = goes_on_with (Err BootStopped) adds (subst (λ (f : Option StepFault). TellsFault f new.core) (sym is) (ends_in_stop g old.core new.core (actor_of actor) request adds))
 
--- ---- from whatever opening it stood for
+-- ---- from whatever opening it represented
 
 pub was_none : (f : Option StepFault) → is_some f ≡ false → f ≡ None
 was_none None is = refl

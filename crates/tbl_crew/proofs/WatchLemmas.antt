@@ -201,7 +201,7 @@ module _ {B C : Type 0} (g : Ghosts B) (verdict : C → List ℕ → ℤ) (first
             ∙ sym (ap (watched_by o.state) added ∙ watched_push o.state y.core.entries e ∙ ap (look_by (tables_after o.state after) (length y.core.entries) (watched_by o.state y.core.entries)) got);
       }
 
-  -- before a turn by which a request was played, no step had answered a fault
+  -- before a turn that played a request, no step had answered a fault
   looks_before : (y z : CrewView B C) (turn : Turn) → PlaysNext g y z watcher turn → (o : Opening B C) → AreLooks g o y.fault looks y.core.entries → AreLooksOf g.tells o.state y.core.entries looks
   looks_before y z turn turned o had = subst (λ (f : Option StepFault). AreLooks g o f looks y.core.entries) turned.went had
 
@@ -250,11 +250,11 @@ module _ {B C : Type 0} (g : Ghosts B) (verdict : C → List ℕ → ℤ) (first
   watched_turned turn (x ∷ xs) (z ∷ zs) ne had t = watched_own t.taken z turn ne (watched_beside x t.taken t.beside had) t.turns t.moves
 
   module _ (turn : Turn) (olds news : List (CrewView B C)) (had : HaveWatched g verdict first looks olds) (turned : HaveTurned g verdict watcher turn olds news) where
-    -- where the turn got no address, the looks are as they were
+    -- if the turn got no address, the looks are as they were
     pub watched_played : turn ≡ Played → HaveWatched g verdict first looks news
     watched_played is = subst (λ (t : Turn). HaveWatched g verdict first (looks_after looks t) news) is (watched_turned turn olds news (λ e. cc (is, e)) had turned)
 
-    -- where it got one, there is one look more
+    -- if it got one, there is one look more
     pub watched_pinned : (pin : Pin) (after : List Look) → turn ≡ Pinned pin → after ≡ looked looks pin.place pin.name (check16 pin.bytes) → HaveWatched g verdict first after news
     watched_pinned pin after is more =
         let now : HaveWatched g verdict first (looked looks pin.place pin.name (check16 pin.bytes)) news = subst (λ (t : Turn). HaveWatched g verdict first (looks_after looks t) news) is (watched_turned turn olds news (λ e. cc (is, e)) had turned) in
@@ -276,7 +276,7 @@ module _ {B C : Type 0} (g : Ghosts B) (verdict : C → List ℕ → ℤ) (first
       by (x ∷ xs) [] has t = absurd t
       by (x ∷ xs) (z ∷ zs) has t = missed_by x z has t got
 
-    -- and where nothing was played
+    -- and if nothing was played
     pub watched_over : (turn ≡ Ended) ⊎ (turn ≡ Done) → HaveWatched g verdict first looks news
     watched_over (inl is) = subst (λ (t : Turn). HaveWatched g verdict first (looks_after looks t) news) is (watched_turned turn olds news (λ e. cc (is, e)) had turned)
     watched_over (inr is) = subst (λ (t : Turn). HaveWatched g verdict first (looks_after looks t) news) is (watched_turned turn olds news (λ e. cc (is, e)) had turned)
@@ -307,7 +307,7 @@ module _ {B C : Type 0} (g : Ghosts B) (verdict : C → List ℕ → ℤ) (first
 pub own_turn : {B C : Type 0} (g : Ghosts B) (verdict : C → List ℕ → ℤ) (y z : CrewView B C) (turn : Turn) → Turns g y z watcher turn → Moves g verdict y watcher z → HasTurned g verdict watcher turn y z
 own_turn g verdict y z turn turned moves = record { taken = y; beside = ([], refl); turns = turned; moves = moves }
 
--- where memory ran out for a look, its answer is handed on
+-- if memory ran out for a look, its answer is handed on
 pub handed_on : {B C M : Type 0} (g : Ghosts B) (verdict : C → List ℕ → ℤ) (first : CrewView B C) (r : Result Unit M) (looks : List Look) (h : CrewView B C) → IsErr r → HasMissed g verdict first looks h → HasLooked g verdict first r looks h
 handed_on g verdict first (Ok done) looks h is missed = absurd (cc is)
 handed_on g verdict first (Err memory) looks h is missed = missed

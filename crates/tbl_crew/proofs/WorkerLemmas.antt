@@ -187,7 +187,7 @@ ended_after actor count turn (h ∷ []) one t is = one_ended actor h (by turn t 
   by (Pinned pin) t is = absurd (elim is [ inl same ↦ cc same | inr same ↦ cc same ])
   by PinMemory t is = absurd (elim is [ inl same ↦ cc same | inr same ↦ cc same ])
 
--- where none is left it has ended
+-- if none is left it has ended
 pub ended_none : {B C : Type 0} (actor : ℕ) (seen : List (CrewView B C)) → HaveLeft (λ _. 0) actor seen → HaveEnded actor seen
 ended_none actor seen left i h at goes = nil_from_length (script_of h.left (actor + i)) (left i h at)
 

@@ -7,7 +7,7 @@ use Rattle.tbl_fakes.specs.Notes.{AllKept, kept_of, call_of, told}
 use Rattle.tbl_fakes.specs.declared.notes.NotedCall.{NotedCall}
 use Rattle.tbl_fakes.specs.declared.notes.NotedCall.TheVariants.{Read, Write}
 
--- what is kept after a call's own bytes isn't told by it
+-- what is kept after a call's own bytes isn't shown by it
 call_of-append : (call : NotedCall) (bytes more : List ℕ) → kept_of call ≤ length bytes → call_of call (bytes ++ more) ≡ call_of call bytes
 call_of-append (Read at count) bytes more le = refl
 call_of-append (Write at count) bytes more le = ap (write at) (take-append-le count bytes more le)

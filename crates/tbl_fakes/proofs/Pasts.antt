@@ -12,7 +12,7 @@ pub map-passed : (spans : List Span) (olds bytes : List ℕ) → map (λ (write 
 map-passed [] olds bytes = refl
 map-passed (span ∷ spans) olds bytes = ap (λ (l : List Span). span ∷ l) (map-passed spans (drop span.length olds) bytes)
 
--- the bytes before the first write stay the same, where one more is kept
+-- the bytes before the first write stay the same, if one more is kept
 module _ (span : Span) (bytes new : List ℕ) (torn : Torn span.at span.length bytes new) (fits : span.at + span.length ≤ length bytes) where
   undone-push : (spans : List Span) (olds : List ℕ) → OldsKept spans olds → undone (spans ++ span ∷ []) (olds ++ piece span.at span.length bytes) new ≡ undone spans olds bytes
   undone-push [] olds whole =
@@ -37,7 +37,7 @@ module _ (span : Span) (bytes new : List ℕ) (torn : Torn span.at span.length b
       ∙ ap (λ (l : List ℕ). let write : Passed = record { before = undone (first ∷ spans) olds bytes; span = first } in write ∷ passed (spans ++ span ∷ []) l new) (drop-append-le first.length olds (piece span.at span.length bytes) within)
       ∙ ap (λ (l : List Passed). let write : Passed = record { before = undone (first ∷ spans) olds bytes; span = first } in write ∷ l) (passed-push spans (drop first.length olds) rest)
 
--- what stands in the range of a piece is kept, and then a front of the piece is written over it
+-- what is in the range of a piece is kept, and then a front of the piece is written over it
 pub kept_and_written : (spans now : List Span) (olds kept bytes old new others : List ℕ) (at reach : ℕ)
     → OldsKept spans olds → at + length others ≤ length bytes
     → old ≡ piece at (length others) bytes

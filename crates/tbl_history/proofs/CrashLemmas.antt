@@ -20,7 +20,7 @@ use Rattle.tbl_session.specs.Moments.{run_at, AtSomePlace, AtExit, GaveLeft, All
 use Rattle.tbl_history.specs.Surviving.{Survives}
 use Rattle.tbl_history.proofs.Laws.{Laws}
 
--- an entry stood at its place before the last one came, or it is the last one
+-- an entry was at its place before the last one came, or it is the last one
 pushed : {X : Type 0} (xs : List X) (y : X) (k : ℕ) (x : X) → slice_get (xs ++ y ∷ []) k ≡ Some x → (slice_get xs k ≡ Some x × suc k ≤ length xs) ⊎ ((k ≡ length xs) × (y ≡ x))
 pushed [] y zero x at = inr (refl, same_Some y x at)
 pushed [] y (suc k) x at = absurd (cc at)
@@ -131,7 +131,7 @@ module _ {B C : Type 0} (g : Ghosts B) (laws : Laws g) where
     restored = λ told place e at. absurd (let empty = none in cc (at, ap (λ (es : List Entry). slice_get es place) empty));
   }
 
--- ---- where there was no service
+-- ---- if there was no service
 
 module _ {B : Type 0} (g : Ghosts B) (laws : Laws g) (opening : State) (bank bank_then : B) (crash : g.tells_moments → LeavesOnly g.clock g.left_since bank bank_then (λ image. Shows opening.store (store_of image))) where
   pub no_moments : g.tells_moments → LeavesOnly g.clock g.left_since bank bank_then (AtSomePlace opening [])

@@ -1,4 +1,4 @@
--- What a reset left at a place of a history is the same where further entries follow.
+-- What a reset left at a place of a history is the same if further entries follow.
 use Rattle.std.proofs.Common.{◌≡◌, ℕ, ◌≤◌, zero, suc, List, [], ◌∷◌, ◌++◌, length, Some, sym, subst, inl, inr}
 use Rattle.std.specs.Prelude.{slice_get}
 use Rattle.std.proofs.lemmas.List.{take-append-le}
@@ -9,7 +9,7 @@ use Rattle.tbl_model.specs.History.{begins_at, run_from}
 use Rattle.tbl_session.specs.Crashes.{UnderWay, AfterCrash}
 use Rattle.tbl_kinds.specs.declared.entry.Entry.{Entry}
 
--- what stands at a place stands there still
+-- what is at a place is still there
 pub stays_at : {X : Type 0} (xs more : List X) (k : ℕ) (x : X) → slice_get xs k ≡ Some x → slice_get (xs ++ more) k ≡ Some x
 stays_at [] more k x at = absurd (cc at)
 stays_at (first ∷ xs) more zero x at = at

@@ -115,7 +115,7 @@ rose_fewer : (many fewer before now : ℕ) → fewer ≤ many → RoseBy many be
 rose_fewer many fewer before now le (inl rose) = inl (omega (arith, rose, le))
 rose_fewer many fewer before now le (inr top) = inr top
 
--- a boot that failed or was stopped is one of those that the history tells
+-- a boot that failed or was stopped is one of those that the history has
 told_fault : (note : BankNote) → note.ended ≡ true → note.stopped ≡ false → 1 ≤ faults_in note
 told_fault note ended stopped = rw (ended, stopped) (omega arith)
 

@@ -17,6 +17,6 @@ backed_from : (r : Run) (entries : List Entry) → AreBacked r.state → AreAnsw
 backed_from r [] backed are = backed
 backed_from r (e ∷ entries) backed are = backed_from (onward r e) entries (backed_onward r e backed are.0) are.1
 
--- from a state without tables on, over blocks of which no two are of one kind and one name
+-- from a state without tables on, over blocks that all differ in kind or name
 pub backed : (opening : State) (entries : List Entry) (after : State) → opening.tables ≡ no_tables → AreSingle opening.store → IsLegal opening entries after → AreBacked after
 backed opening entries after none single legal = subst AreBacked legal.leads (backed_from (begins_at opening) entries (unbacked opening none single) legal.answered)

@@ -1,4 +1,4 @@
--- Each request leaves critical tables backed by their blocks, where its note is one that it may leave.
+-- Each request leaves critical tables backed by their blocks, if its note is one that it may leave.
 use Rattle.std.proofs.Common.{◌≡◌, ◌≢◌, ℕ, ◌<◌, List, [], ◌∷◌, Bool, true, false, not, cond, length, Option, Some, None, is_some, unwrap_or, refl, sym, subst, pos}
 use Rattle.std.specs.Prelude.{IsSome, nat_le, option_and_then, slice_set}
 use Rattle.std.specs.List.{fold, range_with_len}
@@ -78,7 +78,7 @@ gives_up_all app s (m ∷ numbers) backed =
 plain_options : (t : Table) → is_critical (uncritical t) ≡ false
 plain_options t = rw (and_assoc 8 t.options 0xFFF7, and_zero_r t.options) refl
 
--- where an open block has its size, the table has a block
+-- if an open block has its size, the table has a block
 open_is_block : (t : Table) (store : Store) → has_size t.size (option_and_then (stored_at store) (open_of of_table t.name store)) ≡ true → IsSome (block_of t store)
 open_is_block t store sized = by (open_of of_table t.name store) sized where
   by : (found : Option ℕ) → has_size t.size (option_and_then (stored_at store) found) ≡ true → is_some (cond (has_size t.size (option_and_then (stored_at store) found)) found None) ≡ true
@@ -86,7 +86,7 @@ open_is_block t store sized = by (open_of of_table t.name store) sized where
   by (Some slot) is = rw is refl
 
 module _ (s : State) (backed : AreBacked s) (note : BankNote) (row : ℕ) (free : least_free s.tables.rows ≡ Some row) (t : Table) (new : find t.name s.tables ≡ None) where
-  -- where the calls ended as the note says
+  -- if the calls ended as the note says
   abbrev Noted : Effect → Type 0
   Noted e = Ends note.outcome e.calls s.store note → AreBacked e.next
 
@@ -120,7 +120,7 @@ module _ (s : State) (backed : AreBacked s) (note : BankNote) (row : ℕ) (free 
     recovers sized = registers_after few _ (λ none. cc none) (tt, tt) (with_first (restored_image note) t) _
         (change_keeps s.store (unwrap_or (open_of of_table t.name s.store) 0) _ t.name t.size (λ b. refl) (λ b. refl) (has_block t s.store (open_is_block t s.store sized)))
 
-    -- or it is made anew
+    -- or it is newly made
     makes : has_room t.size (any_of of_table t.name s.store) s.store ≡ true → Noted (then_call (renewal of_table t.name t.size (open_of of_table t.name s.store)) note (instead (not_kept s row t)) (registered s row t SUCCESS))
     makes room = registers_after few (renewal of_table t.name t.size (open_of of_table t.name s.store)) (some (open_of of_table t.name s.store)) (table_renewal_suits s.tables s.store t.name t.size backed.single new) t SUCCESS
         (renewal_has t.name t.size s.store backed.single room)

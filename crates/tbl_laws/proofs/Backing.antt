@@ -1,4 +1,4 @@
--- Critical tables stay backed by their blocks: where tables change, where the store is called, where a table is registered, and in a boot.
+-- Critical tables stay backed by their blocks: when tables change, when the store is called, when a table is registered, and in a boot.
 use Rattle.std.proofs.Common.{◌≡◌, ℕ, zero, suc, ◌+◌, ◌<◌, ◌≤◌, List, [], ◌∷◌, count_by, replicate, Bool, true, false, cond, slice_index_or, Option, Some, None, refl, ap, ◌∙◌, subst, inl, inr, arith}
 use Rattle.std.specs.Prelude.{IsSome}
 use Rattle.std.proofs.lemmas.Bool.{cases_Bool}
@@ -33,7 +33,7 @@ less false b implies = omega arith
 less true true implies = omega arith
 less true false implies = absurd (cc (implies refl))
 
--- no more than before, where each stood there before
+-- no more than before, if each was there before
 fewer : (old new : List (Option Table)) → ((k : ℕ) → is_critical_in (slice_index_or new k None) ≡ true → is_critical_in (slice_index_or old k None) ≡ true) → count_by is_critical_in new ≤ count_by is_critical_in old
 fewer old [] each = omega arith
 fewer [] (u ∷ new) each =
@@ -75,7 +75,7 @@ unbacked s none single = record {
 pub boot_backed : (kind : ResetKind) (note : BankNote) (s : State) → AreSingle s.store → AreBacked (boot kind note s)
 boot_backed kind note s single = unbacked (boot kind note s) refl (boot_single kind note s.store single)
 
--- where each table stood there before
+-- if each table was there before
 pub descends_backed : (s next : State) → AreBacked s → Descends s.tables next.tables → next.store ≡ s.store → AreBacked next
 descends_backed s next backed descends store = record {
   each = λ row u there critical. rw store (of row u (descends.each row u there) critical);
@@ -87,7 +87,7 @@ descends_backed s next backed descends store = record {
       let was : IsSome (block_of stood.table s.store) = backed.each row stood.table stood.there (rw (← ap (λ (p : List ℕ × ℕ × ℕ). p.2) stood.same) critical) in
       rw (ap (λ (p : List ℕ × ℕ × ℕ). p.0) stood.same, ap (λ (p : List ℕ × ℕ × ℕ). p.1) stood.same) was
 
--- where calls of the store suit the tables
+-- if calls of the store suit the tables
 pub calls_backed : (s : State) (calls : List StoreCall) (note : BankNote) → AreBacked s → SuitAll s.tables calls s.store → AreBacked (record s { store = left_by calls note s.store })
 calls_backed s calls note backed suit = record {
   each = λ row t there critical. is_block t (left_by calls note s.store) single (calls_keep s.tables row t there calls note s.store suit (has_block t s.store (backed.each row t there critical)));
@@ -97,7 +97,7 @@ calls_backed s calls note backed suit = record {
   single : AreSingle (left_by calls note s.store)
   single = calls_single s.tables calls note s.store suit backed.single
 
--- where a table is registered that isn't critical, or that has its block among few enough others
+-- if a table is registered that isn't critical, or that has its block among few enough others
 pub registered_backed : (s : State) (row : ℕ) (u : Table) → AreBacked s → least_free s.tables.rows ≡ Some row → (is_critical u ≡ true → (critical_count s.tables < critical_limit) × HasBlock s.store u.name u.size) → AreBacked (record s { tables = added row u s.tables })
 registered_backed s row u backed free has = record {
   each = λ k t there critical. elim (at_set s.tables.rows row k u t there) [

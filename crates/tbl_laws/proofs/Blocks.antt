@@ -1,4 +1,4 @@
--- No two blocks of the store are of one kind and one name: so it stays where blocks go, and where one is made.
+-- No two blocks of the store are of one kind and one name: so it stays when blocks go, and when one is made.
 use Rattle.std.proofs.Common.{◌≡◌, ℕ, zero, suc, ◌+◌, List, [], ◌∷◌, Bool, true, false, not, ◌&&◌, cond, eqb, Option, Some, None, refl, sym, ap, ◌∙◌, subst, inl, inr}
 use Rattle.std.specs.Prelude.{slice_set}
 use Rattle.std.specs.List.{list_any}
@@ -47,7 +47,7 @@ of_parts kind name b is =
 pub is_of_parts : (kind : BlockKind) (name : List ℕ) (b : Block) → b.kind ≡ kind → b.name ≡ name → is_of kind name b ≡ true
 is_of_parts kind name b one other = rw (one, other, kind_is kind, name_is name) refl
 
--- and two blocks are of one kind and one name where both have them
+-- and two blocks are of one kind and one name if both have them
 same_parts : (a b : Block) → same_block a b ≡ true → (a.kind ≡ b.kind) × (a.name ≡ b.name)
 same_parts a b is = of_parts b.kind b.name a is
 
@@ -82,7 +82,7 @@ module _ (kind : BlockKind) (name : List ℕ) (store : Store) where
     by None there passes = absurd (cc passes)
     by (Some b) there passes = record { b = b; there = there; is = (and_parts (is_of kind name b.block) b.doubtful passes).0 }
 
-  -- where there is none, none is open, and none doubtful
+  -- if there is none, none is open, and none doubtful
   pub none_open : NoneOf kind name store → open_of kind name store ≡ None
   none_open none = by (open_of kind name store) refl where
     by : (found : Option ℕ) → open_of kind name store ≡ found → found ≡ None
@@ -106,7 +106,7 @@ module _ (kind : BlockKind) (name : List ℕ) (store : Store) where
       neither (is_of kind name b.block) b.doubtful (none_passes (is_open_of kind name) store n b no_open there) (none_passes (is_doubtful_of kind name) store n b no_doubtful there)
 
   module _ (single : AreSingle store) where
-    -- where the one that there is goes, there is none
+    -- if the one that there is goes, there is none
     pub gone : (slot : ℕ) → IsOneOf store kind name slot → NoneOf kind name (slice_set store slot None)
     gone slot stands n b there = elim (at_put store slot n None b there) [
       | inl here ↦ absurd (cc here.1)
@@ -122,7 +122,7 @@ module _ (kind : BlockKind) (name : List ℕ) (store : Store) where
       by None is = none_at_all no_open is
       by (Some slot) is = gone slot (doubtful_stands slot is)
 
--- ---- each block stood there before
+-- ---- each block was there before
 
 pub record Stood (old : Store) (slot : ℕ) (b : Stored) : Type 0 where
   pub was : Stored

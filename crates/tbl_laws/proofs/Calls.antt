@@ -37,7 +37,7 @@ SuitAll tables (call ∷ calls) store = Suits tables call store × SuitAll table
 
 -- ---- what they leave
 
--- what each of them keeps, done or broken off, all of them keep, the last of which may have broken off
+-- what each of them keeps, done or broken off, all of them keep, and the last may have broken off
 module _ (tables : Tables) (P : Store → Type 0) (does : (call : StoreCall) (store : Store) → Suits tables call store → P store → P (after call store))
     (breaks : (gate old : Bool) (call : StoreCall) (store : Store) → Suits tables call store → P store → P (broken gate old call store)) (note : BankNote) where
   goes : (done : ℕ) (calls : List StoreCall) (store : Store) → SuitAll tables calls store → P store → P (then_broken note (slice_get calls done) (after_first done calls store))
@@ -106,7 +106,7 @@ module _ (tables : Tables) (row : ℕ) (t : Table) (registered : table_at tables
     by true same = absurd (cc (rw (sym (of_parts of_table t.name b.block same).1 ∙ (of_parts of_table name b.block is).1) at other, name_is name))
 
 module _ (tables : Tables) (store : Store) where
-  -- a block is made anew, which none of the tables has
+  -- a block is newly made, which none of the tables has
   renewal_suits : (kind : BlockKind) (name : List ℕ) (size : ℕ) → AreSingle store → ((row : ℕ) (t : Table) (b : Stored) → table_at tables row ≡ Some t → is_of kind name b.block ≡ true → is_open_of of_table t.name (Some b) ≡ false)
       → SuitAll tables (renewal kind name size (open_of kind name store)) store
   renewal_suits kind name size single apart = by (open_of kind name store) refl where
@@ -140,7 +140,7 @@ module _ (tables : Tables) (store : Store) where
 pub all_done : (calls : List StoreCall) (note : BankNote) (store : Store) → note.done ≡ length calls → left_by calls note store ≡ fold (λ blocks call. after call blocks) store calls
 all_done calls note store done = rw (slice_get_past calls note.done (omega (arith, done)), take_all note.done calls (omega (arith, done))) refl
 
--- a block that was made anew for a table is its block
+-- a block that was newly made for a table is its block
 pub renewal_has : (name : List ℕ) (size : ℕ) (store : Store) → AreSingle store → has_room size (any_of of_table name store) store ≡ true
     → HasBlock (fold (λ blocks call. after call blocks) store (renewal of_table name size (open_of of_table name store))) name size
 renewal_has name size store single room = by (open_of of_table name store) refl room where

@@ -90,15 +90,15 @@ flaw_refuses no_table_header = refl
 flaw_refuses incomplete = refl
 flaw_refuses too_big = refl
 
--- what calls of the store make of a request that does nothing else: other blocks and an answer, be it that the bank failed, or the
--- service begins anew
+-- what calls of the store make of a request that does nothing else: other blocks and an answer, be it that the bank failed, or the service
+-- begins again
 pub record CallsStore (s : State) (note : BankNote) (P : Effect → Type 0) : Type 0 where
   pub answers : (store : Store) (e : Effect) → e.next ≡ record s { store = store } → e.events ≡ [] → tells_trouble e.status ≡ false → P e
   pub fails : (store : Store) (e : Effect) → note.outcome ≡ Failed → e.next ≡ record s { store = store } → e.events ≡ [] → e.status ≡ ERR_CDS_FAULT → P e
   pub restarts : (store : Store) (e : Effect) → note.outcome ≡ Stopped → e.next ≡ boot Processor note (record s { store = store }) → e.events ≡ [] → e.status ≡ INFO_STOPPED → P e
 
--- what the copy of an image that went active makes of an effect: other blocks, that the bank failed, which is told, or the service
--- begins anew
+-- what the copy of an image that went active makes of an effect: other blocks, that the bank failed, which is reported, or the service
+-- begins again
 pub record Copies (note : BankNote) (P : Effect → Type 0) : Type 0 where
   pub left : (slot : ℕ) (image : List ℕ) (e : Effect) → P e → P (with_calls (copy slot image ∷ []) note e)
   pub fails : (row slot : ℕ) (e : Effect) → note.outcome ≡ Failed → P e → P (copy_failed row slot e)
@@ -134,22 +134,22 @@ Begins store note size calls first =
 abbrev pub with_blocks : List StoreCall → Store → Effect → Effect
 with_blocks calls store e = record e { calls = calls; next = record e.next { store = store } }
 
--- a property of effects that each refusal has, and what is done where nothing is refused, is one of the request's effect
+-- a property of effects that each refusal has, and what is done if nothing is refused, is one of the request's effect
 module _ (s : State) (P : Effect → Type 0) (refusal : (e : Effect) → e.next ≡ s → e.events ≡ [] → e.calls ≡ [] → is_refusal e.status ≡ true → P e) where
   no : (status : Status) (detail : ℕ) → is_refusal status ≡ true → P (answered s status detail)
   no status detail is = refusal (answered s status detail) refl refl refl is
 
-  -- a test that refuses stands before the rest
+  -- a test that refuses comes before the rest
   unless : (b : Bool) (status : Status) (detail : ℕ) (rest : Effect) → is_refusal status ≡ true → P rest → P (cond b (answered s status detail) rest)
   unless true status detail rest is p = no status detail is
   unless false status detail rest is p = p
 
-  -- the same, where the rest needs to know that it didn't
+  -- the same, if the rest needs to know that it didn't
   unless_then : (b : Bool) (status : Status) (detail : ℕ) (rest : Effect) → is_refusal status ≡ true → (b ≡ false → P rest) → P (cond b (answered s status detail) rest)
   unless_then true status detail rest is p = no status detail is
   unless_then false status detail rest is p = p refl
 
-  -- a ladder of refusals stands before it
+  -- a ladder of refusals comes before it
   pub by_ladder : (r : Option Answer) (effect : Effect) → Refuses r → (r ≡ None → P effect) → P (by_answer s r effect)
   by_ladder None effect refuses done = done refl
   by_ladder (Some answer) effect refuses done = no answer.status answer.detail refuses
@@ -164,7 +164,7 @@ module _ (s : State) (P : Effect → Type 0) (refusal : (e : Effect) → e.next 
   by_name None effect done = no ERR_BAD_APP 0 refl
   by_name (Some name) effect done = done name
 
-  -- the handle has a table, which the caller owns where only the owner may call
+  -- the handle has a table, which the caller owns if only the owner may call
   by_handle_row : (app : ℕ) (owner_only : Bool) (of : Option ℕ) (effect : ℕ → Effect) → ((row : ℕ) → of ≡ Some row → P (effect row)) → P (by_check s (check_row s.tables app owner_only of) effect)
   by_handle_row app owner_only None effect done = no ERR_UNREGISTERED 0 refl
   by_handle_row app owner_only (Some row) effect done =
@@ -222,7 +222,7 @@ module _ (s : State) (P : Effect → Type 0) (refusal : (e : Effect) → e.next 
       cond_both (is_some a.handle.pin) _ _ (λ step. P (stepped s step)) (λ _. no ERR_ALREADY_PINNED 0 refl) (λ _.
       cond_both (eqb a.table.count 0) _ _ (λ step. P (stepped s step)) (λ _. no ERR_NEVER_LOADED 0 refl) (done a leads)))
 
-  -- where a handle pins nothing, a release of it is refused
+  -- if a handle pins nothing, a release of it is refused
   pub by_release : (app m : ℕ) → ((a : Access) → Leads s.tables app m a → is_some a.handle.pin ≡ true → P (stepped s (release_of s.tables m a.handle a.row a.table))) → P (release_effect s app m)
   unfolding release_effect
   by_release app m done = by_access app m (λ a. release_of s.tables m a.handle a.row a.table) (stays s.tables ERR_INVALID_HANDLE) (stepped s) (no ERR_INVALID_HANDLE 0 refl) (λ a leads.
@@ -412,7 +412,7 @@ module _ (s : State) (P : Effect → Type 0) (refusal : (e : Effect) → e.next 
 
   -- ---- blocks of the store
 
-  -- the calls that each request makes, where nothing refuses it
+  -- the calls that each request makes, if nothing refuses it
   pub makes_block : (app : ℕ) (short : List ℕ) (size : ℕ) (note : BankNote)
       → ((name : List ℕ) → P (then_call (renewal App name size (open_of App name s.store)) note faulted (answered s SUCCESS (new_slot App name (open_of App name s.store) s.store)))) → P (cds_register_effect s app short size note)
   unfolding cds_register_effect
@@ -551,7 +551,7 @@ module _ (s : State) (P : Effect → Type 0) (refusal : (e : Effect) → e.next 
 
 -- ---- commands
 
--- what each command does where nothing refuses it
+-- what each command does if nothing refuses it
 pub record Commands (s : State) (note : BankNote) (P : Effect → Type 0) : Type 0 where
   pub about : (e : Effect) (table : Option Named) → P e → P (record e { table = table })
   pub accepted : P (answered s SUCCESS 0)

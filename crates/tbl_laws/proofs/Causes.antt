@@ -1,4 +1,4 @@
--- An answer that tells of the bank's trouble has its cause in the note: no other request gives it.
+-- An answer that reports the bank's trouble has its cause in the note: no other request gives it.
 use Rattle.std.proofs.Common.{◌≡◌, ℕ, ◌+◌, nat_lt, List, [], Bool, true, false, not, ◌||◌, cond, eqb, Option, Some, None, refl, sym, ap, ◌∙◌, arith}
 use Rattle.std.specs.Option.{option_map_or}
 use Rattle.std.proofs.lemmas.Bool.{eq-eqb, or_parts, not-true}
@@ -27,7 +27,7 @@ use Rattle.tbl_kinds.specs.declared.status.Status.{Status}
 use Rattle.tbl_kinds.specs.declared.status.TheConstants.Status.{SUCCESS, INFO_UPDATED, INFO_TABLE_LOCKED, INFO_STOPPED, INFO_UPDATE_PENDING, INFO_VALIDATION_PENDING, INFO_DUMP_PENDING, ERR_VALIDATION_FAILED, ERR_CDS_FAULT, ERR_BOOT_FAULT}
 use Rattle.tbl_laws.proofs.Cases.{OfEffect, Commands, by_command, by_file, by_start, by_register, by_share, by_unregister, by_load_image, by_load_file, by_app_validate, by_update, by_manage, by_dump_to_buffer, by_edit, by_get_status, by_get, by_read, by_release, by_info, by_notify, by_exit, CallsStore, by_delete, by_cds_register, by_cds_copy, by_cds_restore, by_cds_delete, Copies}
 
--- an answer that tells of no trouble needs none
+-- an answer that reports no trouble needs none
 harmless : (status : Status) (note : BankNote) → tells_trouble status ≡ false → HasCause status note
 harmless status note none = record {
   stop = λ is. absurd (cc (ap tells_trouble is, none));

@@ -25,7 +25,7 @@ module _ (n : ℕ) (s : State) (fit : AreFit n s) (row : ℕ) (t : Table) (there
   changes : (change : Table → Table) → (change t).handle ≡ t.handle → (change t).owner ≡ t.owner → (change t).validator ≡ t.validator → (change t).notice ≡ t.notice → Becomes n s fit row t there (changed row change s.tables) (change t)
   changes change handle owner validator notice = record { changes = changed_row s.tables row change t there; handles = handles_changed s.tables row change; handle = handle; owner = owner; validator = validator; notice = rw notice (was n s fit row t there).notice }
 
-  -- what telemetry alone tells of changes
+  -- what only telemetry reports of changes
   pub told : (m : ℕ) (change : Table → Table) → n ≤ m → (change t).handle ≡ t.handle → (change t).owner ≡ t.owner → (change t).validator ≡ t.validator → (change t).notice ≡ t.notice → (change t).count ≡ t.count → (change t).load ≡ t.load → (change t).activation ≡ t.activation
       → AreFit m (record s { tables = changed row change s.tables })
   told m change low handle owner validator notice count load activation =
@@ -175,7 +175,7 @@ module _ (n : ℕ) (row : ℕ) (given : Given) where
   with_found P d next None at stays does = stays
   with_found P d next (Some t) at stays does = does t at
 
-  -- a test stands before what is done
+  -- a test comes before what is done
   pub either : (P : Done → Type 0) (b : Bool) (d e : Done) → P d → (b ≡ false → P e) → P (cond b d e)
   either P true d e stays does = stays
   either P false d e stays does = does refl

@@ -25,7 +25,7 @@ use Rattle.tbl_session.specs.Completed.{completed, HasCompleted, Touches, LeaveA
 
 -- ---- what the calls leave
 
--- at each place stands one that writes, and not to the block of this slot
+-- at each place is one that writes, and not to the block of this slot
 abbrev Spare : ℕ → List StoreCall → Type 0
 Spare slot calls = (k : ℕ) (call : StoreCall) → slice_get calls k ≡ Some call → (is_restore call ≡ false) × ¬ Touches slot call
 
@@ -34,7 +34,7 @@ module _ (slot : ℕ) (b : Stored) (sure : b.doubtful ≡ false) where
   abbrev There : Store → Type 0
   There store = stored_at store slot ≡ Some b
 
-  -- it stays where another slot changes
+  -- it stays if another slot changes
   put : (store : Store) (n : ℕ) (y : Option Stored) → ¬ (n ≡ slot) → There store → There (slice_set store n y)
   put store n y other there = get_or-set_other store n slot y None (λ same. other (sym same)) ∙ there
 
@@ -113,8 +113,8 @@ spare_in : (r : Run) (e : Entry) (slot : ℕ) → LeaveAlone slot (calls_in r e)
 spare_in r e slot alone k call at =
     (written_at (effect_in r e) k call at, rw (get_or_from_slice_get (calls_in r e) k call call at) at (alone k call (slice_get_within (calls_in r e) k call at)))
 
--- Where no call of a request copies into the block of this slot or deletes it, and the request is no power-on, the completed copy is
--- there at each moment: whatever else is reserved, copied or deleted
+-- If no call of a request copies into the block of this slot or deletes it, and the request is no power-on, the completed copy is there at
+-- each moment: whatever else is reserved, copied or deleted
 pub completed_stays : (r : Run) (e : Entry) (left : Store) (slot : ℕ) (block : Block) (image : List ℕ)
     → HasCompleted r.state.store slot block image → LeaveAlone slot (calls_in r e) → ¬ (e.request ≡ ask.Reset PowerOn) → UnderWay r e left → HasCompleted left slot block image
 completed_stays r e left slot block image holds alone no_power_on under = elim under [

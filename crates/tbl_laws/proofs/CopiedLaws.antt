@@ -44,7 +44,7 @@ pub record HasLast (tables : Tables) (row : ℕ) : Type 0 where
   pub image : List ℕ
   pub last : table.last ≡ Some image
 
--- the effect leaves the blocks, and where an image went active by it, it is the last one of the table in this row
+-- the effect leaves the blocks, and if an image went active by it, it is the last one of the table in this row
 pub record GoesActive (s : State) (row : ℕ) (e : Effect) : Type 0 where
   pub store : e.next.store ≡ s.store
   pub has : went_active e ≡ true → HasLast e.next.tables row
@@ -101,7 +101,7 @@ update_last s row t there =
       last = refl;
     }
 
--- a new image becomes the last one of the table that stands there
+-- a new image becomes the last one of the table that is there
 module _ (s : State) (row : ℕ) (t : Table) (there : table_at s.tables row ≡ Some t) where
   put_last : (image : List ℕ) → HasLast (set_time row s.seconds s.sub (put row image s.tables)) row
   put_last image = record {
@@ -142,7 +142,7 @@ module _ (s : State) (row : ℕ) (t : Table) (there : table_at s.tables row ≡ 
 
 -- ---- Manage
 
--- what was done so far ends with an image that went active only where the table in this row has a last one
+-- what was done so far ends with an image that went active only if the table in this row has a last one
 abbrev GoesSoFar : ℕ → Done → Type 0
 GoesSoFar row d = is_activation (slice_get d.events (length d.events - 1)) ≡ true → HasLast d.state.tables row
 

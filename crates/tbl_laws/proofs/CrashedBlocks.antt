@@ -82,7 +82,7 @@ module _ (opening : State) (entries : List Entry) (place : ℕ) (left : Store) w
 
 -- ---- the blocks that a reset left
 
--- each stood there before
+-- each was there before
 shows_remain : (store left : Store) → Shows store left → Remain store left
 shows_remain store left shows = record { each = λ slot b there. of slot b (stored_at store slot) refl (rw there at (shows.each slot)) } where
   of : (slot : ℕ) (b : Stored) (found : Option Stored) → stored_at store slot ≡ found → MayShow found (Some b) → Stood store slot b

@@ -44,7 +44,7 @@ behind_broken_call calls note store left broke shows = record {
   leaves = inr (broke.call, broke.next, record { gate = note.gate; old = note.old; can = broke.breaks; shows = rw broke.next at shows });
 }
 
--- after the last of them, where all are done
+-- after the last of them, if all are done
 pub behind_done_calls : (calls : List StoreCall) (note : BankNote) (store left : Store) → note.done ≡ length calls → Shows (left_by calls note store) left → DuringCalls calls store left
 behind_done_calls calls note store left done shows = record {
   done = length calls;

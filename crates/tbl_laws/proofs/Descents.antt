@@ -21,13 +21,13 @@ use Rattle.tbl_laws.proofs.Changes.{with_found, either}
 abbrev pub plan : Table → List ℕ × ℕ × ℕ
 plan t = (t.name, t.size, t.options)
 
--- in this row stands a table of the same name, size and options
+-- in this row is a table of the same name, size and options
 pub record StoodBefore (rows : List (Option Table)) (row : ℕ) (u : Table) : Type 0 where
   pub table : Table
   pub there : slice_index_or rows row None ≡ Some table
   pub same : plan u ≡ plan table
 
--- each table stood there before
+-- each table was there before
 pub record Descends (old new : Tables) : Type 0 where
   pub each : (row : ℕ) (u : Table) → table_at new row ≡ Some u → StoodBefore old.rows row u
 

@@ -63,7 +63,7 @@ plain_spares actor request status app n same plain goes_on = record {
   goes_on = rw plain.no_reset goes_on;
 }
 
--- an answer that tells of no trouble isn't that of a stop
+-- an answer that reports no trouble isn't that of a stop
 pub no_stop : (status : Status) → tells_trouble status ≡ false → eqb status.0 INFO_STOPPED.0 ≡ false
 no_stop status none = (or_parts (eqb status.0 INFO_STOPPED.0) _ none).0
 
@@ -134,7 +134,7 @@ module _ (s : State) (actor : Actor) (request : Request) where
 
 -- ---- what each request does
 
--- a granted call, whether or not an image came since the handle was told
+-- a granted call, whether or not an image came that the handle doesn't know of
 pub granted : (b : Bool) → (is_done (cond b INFO_UPDATED SUCCESS) ≡ true) × (eqb (cond b INFO_UPDATED SUCCESS).0 INFO_STOPPED.0 ≡ false)
 granted true = (refl, refl)
 granted false = (refl, refl)

@@ -1,4 +1,4 @@
--- What holds of the state between two requests, where little of it changes.
+-- What holds of the state between two requests, when little of it changes.
 use Rattle.std.proofs.Common.{◌≡◌, ◌≢◌, ℕ, ◌≤◌, ◌<◌, List, length, Bool, true, false, not, Option, Some, None, IsSome, is_some, refl, sym, ◌∙◌, subst, arith, inl, inr, ℤ}
 use Rattle.std.specs.Prelude.{IfSome}
 use Rattle.std.specs.Option.{option_map}
@@ -30,17 +30,17 @@ load_there t false has is = has
 
 -- ---- states that differ little
 
--- what is fit stays so where more images may have been
+-- what is fit stays so if more images may have been
 more : (n m : ℕ) (kit : List (Option ℕ)) (pending : List (ℕ × Bool)) (handles : List (Option Handle)) (row : ℕ) (found : Option Table) → n ≤ m → FitAt n kit pending handles row found → FitAt m kit pending handles row found
 more n m kit pending handles row None low fit = fit
 more n m kit pending handles row (Some t) low fit = record { few = let few = fit.few in omega arith; registered = fit.registered; function = fit.function; notice = fit.notice; checked = fit.checked; pends = fit.pends }
 
--- and where nothing else is pending for the row
+-- and if nothing else is pending for the row
 same_pending : (n : ℕ) (kit : List (Option ℕ)) (old new : List (ℕ × Bool)) (handles : List (Option Handle)) (row : ℕ) (found : Option Table) → ((active : Bool) → is_pending row active new ≡ is_pending row active old) → FitAt n kit old handles row found → FitAt n kit new handles row found
 same_pending n kit old new handles row None same fit = λ active. same active ∙ fit active
 same_pending n kit old new handles row (Some t) same fit = record { few = fit.few; registered = fit.registered; function = fit.function; notice = fit.notice; checked = fit.checked; pends = λ active is. fit.pends active (sym (same active) ∙ is) }
 
--- and where its registration's handle stays
+-- and if its registration's handle stays
 same_handle : (n : ℕ) (kit : List (Option ℕ)) (pending : List (ℕ × Bool)) (old new : List (Option Handle)) (row : ℕ) (found : Option Table)
     → ((t : Table) → found ≡ Some t → IsRegistered old row t.handle t.owner → IsRegistered new row t.handle t.owner) → FitAt n kit pending old row found → FitAt n kit pending new row found
 same_handle n kit pending old new row None stays fit = fit

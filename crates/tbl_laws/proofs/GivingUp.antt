@@ -21,7 +21,7 @@ use Rattle.tbl_laws.proofs.Changes.{told}
 
 -- ---- registrations that stay
 
--- a handle is put at a place: in the place of one of the same application and row, or where none was
+-- a handle is put at a place: in the place of one of the same application and row, or in a free one
 pub kept_with : (handles : List (Option Handle)) (m : ℕ) (h : Handle) (row number owner : ℕ) → ((g : Handle) → slice_index_or handles m None ≡ Some g → (h.app ≡ g.app) × (h.row ≡ g.row))
     → IsRegistered handles row number owner → IsRegistered (slice_set handles m (Some h)) row number owner
 kept_with handles m h row number owner same reg = elim (cases_eq number m) [

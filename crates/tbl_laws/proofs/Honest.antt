@@ -19,7 +19,7 @@ pub record TellsIn (events : List TelemetryEvent) (images : List (Option (List �
   pub event_is : slice_get events place ≡ Some event
   pub image_is : slice_index_or images place None ≡ Some image
 
--- one of the first so many events tells verdict 0 on this image for the table in this row
+-- one of the first so many events reports verdict 0 on this image for the table in this row
 pub record PassesIn (events : List TelemetryEvent) (images : List (Option (List ℕ))) (row : ℕ) (image : List ℕ) (most : ℕ) : Type 0 where
   pub place : ℕ
   pub first : place < most
@@ -33,7 +33,7 @@ abbrev pub is_activated : TelemetryEvent → Bool
 is_activated (Activated row count name) = true
 is_activated _ = false
 
--- none of them tells of an image that goes active
+-- none of them reports an image that goes active
 abbrev pub NoneActive : List TelemetryEvent → Type 0
 NoneActive events = (place row count : ℕ) (name : List ℕ) → slice_get events place ≢ Some (Activated row count name)
 
@@ -61,7 +61,7 @@ inherits_row old new row t u there one validator keeps k v l at load checked = e
   | inr other ↦ (v, sym (one.others k other) ∙ at, load, refl)
 ]
 
--- one row changes, and no table stands in it then, or none with a load
+-- one row changes, and has no table then, or one without a load
 pub inherits_none : (old new : Tables) (row : ℕ) (found : Option Table) → OneRow old new row found → ((u : Table) → found ≡ Some u → u.load ≡ None) → Inherits old new
 inherits_none old new row found one none k v l at load checked = elim (cases_eq k row) [
   | inl same ↦ absurd (cc (none v (sym one.here ∙ ap (λ (j : ℕ). table_at new j) (sym same) ∙ at), load))
@@ -109,7 +109,7 @@ none_active_more events d none not_active place row count name is = elim (slice_
   | inr last ↦ cc (ap is_activated last.1, not_active)
 ]
 
--- what is told goes on to be told where more is
+-- what is reported goes on to be reported if more is
 pub get_before : {X : Type 0} (xs ys : List X) (place : ℕ) (x : X) → slice_get xs place ≡ Some x → slice_get (xs ++ ys) place ≡ Some x
 get_before [] ys zero x is = absurd (cc is)
 get_before [] ys (suc place) x is = absurd (cc is)
@@ -122,7 +122,7 @@ index_before [] ys (suc place) x is = absurd (cc is)
 index_before (z ∷ zs) ys zero x is = is
 index_before (z ∷ zs) ys (suc place) x is = index_before zs ys place x is
 
--- what stands before nothing
+-- what comes before nothing
 pub index_none : {X : Type 0} (xs : List (Option X)) (place : ℕ) (x : X) → slice_index_or (xs ++ None ∷ []) place None ≡ Some x → slice_index_or xs place None ≡ Some x
 index_none [] zero x is = absurd (cc is)
 index_none [] (suc place) x is = absurd (cc is)
@@ -140,7 +140,7 @@ passes_more events more images others row image most least low p = record {
   good = p.good;
 }
 
--- the last one tells it
+-- the last one reports it
 pub last_tells : (events : List TelemetryEvent) (images : List (Option (List ℕ))) (d : TelemetryEvent) (image : List ℕ) → length events ≡ length images → TellsIn (events ++ d ∷ []) (images ++ Some image ∷ []) (length events) d image
 last_tells events images d image long = record { event_is = get_last events d; image_is = ap (λ (k : ℕ). slice_index_or (images ++ Some image ∷ []) k None) long ∙ index_last images image } where
   get_last : {X : Type 0} (xs : List X) (x : X) → slice_get (xs ++ x ∷ []) (length xs) ≡ Some x

@@ -223,7 +223,7 @@ module _ (s : State) where
 
 -- ---- Manage
 
--- what was done so far tells of no image that went active, and each mark has a verdict in it or was there
+-- what was done so far reports no image that went active, and each mark has a verdict in it or was there
 record SoFar (s : State) (d : Done) : Type 0 where
   none : NoneActive d.events
   long : length d.events ≡ length d.images
@@ -342,7 +342,7 @@ module _ (n : ℕ) (row : ℕ) (given : Given) (s : State) where
 
 -- ---- housekeeping
 
--- the dumps that came to their end tell of files alone
+-- the dumps that came to their end report only files
 record OnlyFiles (s : State) (e : Ended) : Type 0 where
   none : NoneActive e.events
   inherits : Inherits s.tables e.state.tables
@@ -392,7 +392,7 @@ module _ (s : State) (n : ℕ) (fit : AreFit n s) where
     restarts = λ store e stopped is no_events status. anew e no_events (ap (λ (t : State). t.tables) is);
   }
 
-  -- that a copy failed is told after all else
+  -- that a copy failed is reported after all else
   failed : (row slot : ℕ) (e : Effect) → IsHonest s e → IsHonest s (copy_failed row slot e)
   failed row slot e p = record {
     active = λ place k count name image t tells there function. elim (slice_get_more e.events (CopyFailed row slot) (Activated k count name) place tells.event_is) [

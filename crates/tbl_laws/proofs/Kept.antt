@@ -1,4 +1,4 @@
--- Each verdict that an entry tells of a table with a function is one that the function was asked for, about the very image.
+-- Each verdict that an entry reports of a table with a function is one that the function was asked for, about the very image.
 use Rattle.std.proofs.Common.{◌≡◌, ◌+◌, ℕ, zero, suc, List, [], ◌∷◌, ◌++◌, length, Bool, true, false, not, cond, eqb, Option, Some, None, is_some, ℤ, pos, refl, sym, ap, subst, ◌∙◌, inl, inr, length-append, arith}
 use Rattle.std.specs.Prelude.{slice_get, slice_index_or}
 use Rattle.std.specs.Option.{option_map, option_map_or}
@@ -55,7 +55,7 @@ none_told s given [] images questions no_events zero row number event image v t 
 none_told s given [] images questions no_events (suc place) row number event image v t tells is there function = absurd (cc tells.event_is)
 none_told s given (d ∷ ds) images questions no_events place row number event image v t tells is there function = absurd (cc no_events)
 
--- an event that tells no verdict
+-- an event that reports no verdict
 abbrev IsSilent : TelemetryEvent → Type 0
 IsSilent d = (row : ℕ) → verdict_for row d ≡ None
 
@@ -64,7 +64,7 @@ one_told s given d images questions silent zero row number event image v t tells
 one_told s given d images questions silent (suc zero) row number event image v t tells is there function = absurd (cc tells.event_is)
 one_told s given d images questions silent (suc (suc place)) row number event image v t tells is there function = absurd (cc tells.event_is)
 
--- the row that a verdict is told of
+-- the row whose verdict is reported
 told_of : (b : Bool) (v w : ℤ) → cond b (Some v) None ≡ Some w → (b ≡ true) × (v ≡ w)
 told_of true v w is = (refl, same_Some v w is)
 told_of false v w is = absurd (cc is)
@@ -127,7 +127,7 @@ keeps_marked first mid row false verdict x keeps at =
     let change : Table → Table = λ v. record v { load = option_map (λ (l : Load). record l { checked = is_good verdict }) v.load } in
     keeps_then first mid (set_checked row (is_good verdict) mid) row x (change x) keeps at (changed_row mid row change x at) refl
 
--- the image of an event that stood there before one more
+-- the image of an event that was there before one more
 index_old : {X Y : Type 0} (xs : List X) (ys : List (Option Y)) (x : X) (y z : Y) (place : ℕ) → length xs ≡ length ys → slice_get xs place ≡ Some x → slice_index_or (ys ++ Some y ∷ []) place None ≡ Some z → slice_index_or ys place None ≡ Some z
 index_old [] ys x y z zero same got is = absurd (cc got)
 index_old [] ys x y z (suc place) same got is = absurd (cc got)

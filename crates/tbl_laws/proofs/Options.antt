@@ -1,4 +1,4 @@
--- Whatever the owner's four calls do to a table, in its row stands one of the same options.
+-- Whatever the owner's four calls do to a table, its row has one of the same options.
 use Rattle.std.proofs.Common.{◌≡◌, ℕ, List, [], length, true, Option, Some, None, refl, sym, ap, ◌∙◌}
 use Rattle.std.specs.Prelude.{IfSome}
 use Rattle.std.proofs.lemmas.Option.{same_Some}

@@ -47,7 +47,7 @@ fit_at_first n s tables pending = record { each = λ row. rw (tables, pending) (
   none : (row count : ℕ) → FitAt n s.kit [] (replicate 256 None) row (slice_index_or (replicate {A = Option Table} count None) row None)
   none row count = rw (nothing_at {X = Table} count row) (λ active. refl)
 
--- nothing stands in a free place
+-- nothing is in a free place
 pub free_place : {X : Type 0} (places : List (Option X)) (n : ℕ) → least_free places ≡ Some n → (n < length places) × (slice_index_or places n None ≡ None)
 free_place places n free =
     let found = position-Some is_none places n None free in
@@ -127,7 +127,7 @@ module _ (s : State) (n : ℕ) (lives : s.ended ≡ false) (fit : AreFit n s) (g
   elsewhere : (next : State) → next.tables ≡ s.tables → next.pending ≡ s.pending → next.kit ≡ s.kit → AreFit (suc n) next
   elsewhere next tables pending kit = fit_same n (suc n) s next (omega arith) fit (ap (λ (t : Tables). t.rows) tables) pending kit (λ k t there reg. rw tables reg)
 
-  -- a handle is put where one of the same application and row is, or none
+  -- a handle is put in the place of one of the same application and row, or in a free one
   with_this_handle : (m : ℕ) (h : Handle) → ((g : Handle) → handle_at s.tables m ≡ Some g → (h.app ≡ g.app) × (h.row ≡ g.row)) → AreFit n (record s { tables = with_handle m h s.tables })
   with_this_handle m h alike = fit_same n n s (record s { tables = with_handle m h s.tables }) (omega arith) fit refl refl refl (λ k t there reg. kept_with s.tables.handles m h k t.handle t.owner alike reg)
 

@@ -16,7 +16,7 @@ use Rattle.tbl_model.specs.TableSteps.{handle_at, pins, is_in_way, locker, image
 
 -- ---- places
 
--- what stands at a place after something, or nothing, was put at one of them
+-- what is at a place after something, or nothing, was put at one of them
 pub at_put : {X : Type 0} (xs : List (Option X)) (n k : ℕ) (x : Option X) (y : X) → slice_index_or (slice_set xs n x) k None ≡ Some y
     → ((k ≡ n) × (x ≡ Some y)) ⊎ ((k ≢ n) × (slice_index_or xs k None ≡ Some y))
 at_put [] n k x y there = absurd (cc there)
@@ -30,21 +30,21 @@ pub at_set : {X : Type 0} (xs : List (Option X)) (n k : ℕ) (x y : X) → slice
     → ((k ≡ n) × (x ≡ y)) ⊎ ((k ≢ n) × (slice_index_or xs k None ≡ Some y))
 at_set xs n k x y there = elim (at_put xs n k (Some x) y there) [ inl here ↦ inl (here.0, same_Some x y here.1) | inr other ↦ inr other ]
 
--- something stands only within the list
+-- there is something only within the list
 pub within : {X : Type 0} (xs : List (Option X)) (k : ℕ) (x : X) → slice_index_or xs k None ≡ Some x → k < length xs
 within xs k x there = elim (cases_lt k (length xs)) [ inl is ↦ is | inr past ↦ absurd (cc (get_or_past xs k None past)) ]
 
--- nothing stands at a free place
+-- nothing is at a free place
 pub nothing_there : {X : Type 0} (n k : ℕ) (x : X) → slice_index_or (replicate {A = Option X} n None) k None ≡ Some x → ⊥
 nothing_there zero k x there = cc
 nothing_there (suc n) zero x there = cc
 nothing_there (suc n) (suc k) x there = nothing_there n k x there
 
--- the first place that passes a test is past the end where none does
+-- the first place that passes a test is past the end if none does
 past_none : (n all : ℕ) → cond (nat_lt n all) (Some n) None ≡ None → all ≤ n
 past_none n all none = grind (arith, nat_tests)
 
--- where no place passes a test, nothing that stands at one does
+-- if no place passes a test, nothing that is at one does
 pub none_passes : {X : Type 0} (p : Option X → Bool) (xs : List (Option X)) (k : ℕ) (x : X) → position p xs ≡ None → slice_index_or xs k None ≡ Some x → p (Some x) ≡ false
 none_passes p xs k x none there =
     let past : length xs ≤ position_or_len p xs = past_none (position_or_len p xs) (length xs) none in
@@ -167,7 +167,7 @@ set_keeps old row u handles stay gives new = record {
   loaded = λ all k t there. elim (at_set old.rows row k u t there) [ inl here ↦ subst IsLoaded here.1 (new all) | inr other ↦ all k t other.1 ];
 }
 
--- a handle that pins nothing is put at a place: each that pins an image stood there before, at another place
+-- a handle that pins nothing is put at a place: each that pins an image was there before, at another place
 pub unpinned_set : (handles : List (Option Handle)) (m : ℕ) (free : Handle) (n : ℕ) (h : Handle) (p : ℕ) → free.pin ≡ None → slice_index_or (slice_set handles m (Some free)) n None ≡ Some h → h.pin ≡ Some p
     → (n ≢ m) × (slice_index_or handles n None ≡ Some h)
 unpinned_set handles m free n h p none at pin =

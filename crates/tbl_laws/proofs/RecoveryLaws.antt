@@ -181,7 +181,7 @@ module _ (left : Store) (s : State) (name : List ℕ) (r : Registration) (over :
     by None at = inr (starts None at)
     by (Some image) at = inl (image, was_copied b image (subst (MayGive b) at stays.may), starts (Some image) at)
 
-  -- with none only where the block holds none
+  -- with none only if the block holds none
   never_comes_empty : IsSome b.held → (image : List ℕ) × WasCopied b image × Recovers left (registering s r) name image
   never_comes_empty some = by stays.found.held refl where
     by : (held : Option (List ℕ)) → stays.found.held ≡ held → (image : List ℕ) × WasCopied b image × Recovers left (registering s r) name image
@@ -212,7 +212,7 @@ module _ (opening : State) (entries : List Entry) (place : ℕ) (left : Store) (
   pub recovers_copied : (slot : ℕ) (b : Stored) → IsBlockOf name r.size b.block → IsShown Blocks left slot b → ComesBack (WasCopied b) left (registering s r) name
   recovers_copied slot b is shown = copied_comes_back left s name r over Blocks shows single slot b is shown.there shown.shown
 
-  -- with none only where the block holds none
+  -- with none only if the block holds none
   pub loses_none : (slot : ℕ) (b : Stored) → IsBlockOf name r.size b.block → IsShown Blocks left slot b → IsSome b.held → (image : List ℕ) × WasCopied b image × Recovers left (registering s r) name image
   loses_none slot b is shown some = never_comes_empty left s name r over Blocks shows single slot b is shown.there shown.shown some
 
@@ -222,7 +222,7 @@ module _ (opening : State) (entries : List Entry) (place : ℕ) (left : Store) (
 runs_at : (n : ℕ) (apps : List (Option (List ℕ))) (name : List ℕ) → n < length apps → option_and_then (λ (found : Option (List ℕ)). found) (slice_get (slice_set apps n (Some name)) n) ≡ Some name
 runs_at n apps name within = rw (slice_get_read (slice_set apps n (Some name)) (length apps) n (Some name) (sym (length-set apps n (Some name))) within (sym (get_or-set_same apps n (Some name) (Some name) within))) refl
 
--- nothing is registered there, so nothing but what is asked for can stand against a registration
+-- nothing is registered there, so only what is asked for can be in the way of a registration
 pub registers_at_start : (left : Store) (kit : List (Option ℕ)) (admit : Admitted) (app_name : List ℕ) (r : Registration) → 1 ≤ r.app → r.app ≤ 16 → plan_refusal kit r.app r.short r.size r.flags r.validator ≡ None → has_option 0x0008 r.flags ≡ true
     → IsNoteOf (request_of r) (registering (started left kit admit r.app app_name) r).calls left r.note → r.note.outcome ≡ AllDone → Registers left (started left kit admit r.app app_name) (full_name app_name r.short) r
 registers_at_start left kit admit app_name r some most plan critical noted done = record {

@@ -1,4 +1,4 @@
--- Changes of one row: what stands in it then, and that the others stay.
+-- Changes of one row: what is in it then, and that the others stay.
 use Rattle.std.proofs.Common.{◌≡◌, ◌≢◌, ℕ, ◌<◌, suc, zero, List, length, replicate, Option, Some, None, refl, ap, ◌∙◌, inl, inr}
 use Rattle.std.specs.Prelude.{slice_index_or}
 use Rattle.std.proofs.lemmas.Bool.{cases_lt}
@@ -7,17 +7,17 @@ use Rattle.tbl_model.specs.State.{Table, Tables}
 use Rattle.tbl_model.specs.Tables.{table_at}
 use Rattle.tbl_model.specs.TableSteps.{with_table, with_image, changed, put, set_time}
 
--- something stands only within the list
+-- there is something only within the list
 pub within : {X : Type 0} (xs : List (Option X)) (k : ℕ) (x : X) → slice_index_or xs k None ≡ Some x → k < length xs
 within xs k x there = elim (cases_lt k (length xs)) [ inl is ↦ is | inr past ↦ absurd (cc (get_or_past xs k None past)) ]
 
--- nothing stands at a free place
+-- nothing is at a free place
 pub nothing_at : {X : Type 0} (n k : ℕ) → slice_index_or (replicate {A = Option X} n None) k None ≡ None
 nothing_at zero k = refl
 nothing_at (suc n) zero = refl
 nothing_at (suc n) (suc k) = nothing_at n k
 
--- in this row stands what is found then, and the other rows are as they were
+-- in this row is what is found then, and the other rows are as they were
 pub record OneRow (old new : Tables) (row : ℕ) (found : Option Table) : Type 0 where
   pub here : table_at new row ≡ found
   pub others : (k : ℕ) → k ≢ row → table_at new k ≡ table_at old k

@@ -36,7 +36,7 @@ use Rattle.tbl_session.specs.Backed.{AreSingle}
 use Rattle.tbl_laws.proofs.Calls.{SuitAll, app_renewal_suits, table_renewal_suits, app_delete_suits, table_delete_suits}
 use Rattle.tbl_laws.proofs.Cases.{OfEffect, Commands, by_command, by_file, by_start, by_new, by_share, by_unregister, by_load_image, by_load_file, by_app_validate, by_update, by_manage, by_get_status, by_get, by_read, by_release, by_dump_to_buffer, by_edit, by_info, by_notify, by_exit, makes_block, copies_block, restores_block, deletes_block, Copies}
 
--- a block that is made anew is only written
+-- a block that is newly made is only written
 renewal_writes : (kind : BlockKind) (name : List ℕ) (size : ℕ) (old : Option ℕ) → writes (renewal kind name size old) ≡ renewal kind name size old
 renewal_writes kind name size None = refl
 renewal_writes kind name size (Some slot) = refl

@@ -1,4 +1,4 @@
--- The open block of a table: it stays where blocks of other names go, and where one is made.
+-- The open block of a table: it stays when blocks of other names go, and when one is made.
 use Rattle.std.proofs.Common.{◌≡◌, ℕ, List, Bool, true, false, not, ◌&&◌, cond, eqb, Option, Some, None, is_some, refl, sym, ap, ◌∙◌, inl, inr}
 use Rattle.std.specs.Prelude.{slice_set, IsSome, option_and_then}
 use Rattle.std.specs.Option.{option_map}
@@ -55,7 +55,7 @@ is_block t store single has = by (open_of of_table t.name store) refl where
 
 -- ---- it stays
 
--- what stood in a slot was no open block of the name
+-- what was in a slot was no open block of the name
 pub set_keeps : (store : Store) (n : ℕ) (y : Option Stored) (name : List ℕ) (size : ℕ) → is_open_of of_table name (stored_at store n) ≡ false → HasBlock store name size → HasBlock (slice_set store n y) name size
 set_keeps store n y name size other has = elim (cases_eq has.slot n) [
   | inl same ↦ absurd (cc (other, ap (λ (k : ℕ). is_open_of of_table name (stored_at store k)) (sym same), ap (is_open_of of_table name) has.there, has.is))
@@ -101,7 +101,7 @@ module _ (name : List ℕ) (size : ℕ) where
 
 -- ---- it is made
 
--- where a slot and a place are there
+-- if a slot and a place are there
 pub made_has : (name : List ℕ) (size : ℕ) (store : Store) → (is_some (least_free store) && is_some (place (taken store) size)) ≡ true → HasBlock (made false of_table name size store) name size
 made_has name size store room = by (least_free store) (place (taken store) size) refl room where
   by : (slot at : Option ℕ) → least_free store ≡ slot → (is_some slot && is_some at) ≡ true → HasBlock (made_at false of_table name size slot at store) name size

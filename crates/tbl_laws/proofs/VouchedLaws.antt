@@ -19,7 +19,7 @@ use Rattle.tbl_laws.proofs.Ordinary.{IsOrdinary, fit_at_first, ordinary}
 use Rattle.tbl_laws.proofs.Honest.{PassesIn, IsHonest}
 use Rattle.tbl_laws.proofs.HonestRequests.{honest}
 
--- one of the entries so far tells verdict 0 on this image, and the table has been registered since
+-- one of the entries so far reports verdict 0 on this image, and the table has been registered since
 record Passed (past : List Told) (row : ℕ) (image : List ℕ) : Type 0 where
   sooner : List Told
   one : Told
@@ -36,7 +36,7 @@ record Invariant (past : List Told) (entries : List Entry) (s : State) : Type 0 
 holds_start : (opening : State) → opening.tables ≡ no_tables → opening.pending ≡ [] → Invariant [] [] opening
 holds_start opening tables pending = record { marks = λ row u l there load checked function. absurd (nothing_there 128 row u (rw tables at there)); fit = fit_at_first 0 opening tables pending }
 
--- what is told in lists is told of the entry
+-- what is reported in lists is reported of the entry
 passes_of : (t : Told) (row : ℕ) (image : List ℕ) (most : ℕ) → PassesIn t.effect.events t.effect.images row image most → Passes t row image most
 passes_of t row image most p = record { place = p.place; first = p.first; event = p.event; tells = record { event_is = p.tells.event_is; image_is = p.tells.image_is }; verdict = p.verdict; is = p.is; good = p.good }
 

@@ -61,7 +61,7 @@ holds_start opening tables pending = record {
   fit = fit_at_first 0 opening tables pending;
 }
 
--- none passes a test where one more fails it
+-- none passes a test if one more fails it
 none_more : {X : Type 0} (p : X → Bool) (xs : List X) (x : X) → list_any p xs ≡ false → p x ≡ false → list_any p (xs ++ x ∷ []) ≡ false
 none_more p xs x none fails = rw (list_any-append p xs (x ∷ []), none, fails) refl
 
@@ -181,14 +181,14 @@ module _ (opening : State) (entries : List Entry) (s : State) (holds : Invariant
     of_all (Some e) = λ ok. tt
 
 module _ (opening : State) where
-  -- what stands after these entries
+  -- what is there after these entries
   abbrev run_at : List Entry → Run
   run_at entries = run_from (begins_at opening) entries
 
   abbrev HoldsAt : List Entry → Type 0
   HoldsAt entries = Invariant opening entries (run_at entries).state
 
-  -- the next entry, where it is a read
+  -- the next entry, if it is a read
   whole_entry : (entries : List Entry) (e : Entry) → HoldsAt entries → IsAnswered (run_at entries) e → IsWholeEntry opening entries e
   whole_entry entries e holds is ok =
       let by = subst (OfEffect (λ (f : Effect). f.status ≡ SUCCESS → IsWholeBy opening entries e.actor e.request f.bytes)) is.effect_is (whole_by opening entries (run_at entries).state holds e.actor e.request e.given) in

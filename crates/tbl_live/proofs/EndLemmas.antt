@@ -1,4 +1,4 @@
--- What each seat tells in the end.
+-- What each seat says in the end.
 use Rattle.std.proofs.Common.{◌≡◌, ◌≢◌, ℕ, zero, suc, ◌+◌, ◌<◌, List, [], ◌∷◌, length, Option, Some, refl, sym, ◌∙◌, subst, arith, ℤ}
 use mathlib.Core.Option.{some}
 use lib.ListN.{get_elem?}

@@ -52,7 +52,7 @@ played_gives old new slice entries bytes after (Err NoMemory) result is gives = 
 played_gives old new slice entries bytes after (Err BootFault) result is gives = subst (Gives old new slice) (sym is.1) gives
 played_gives old new slice entries bytes after (Err BootStopped) result is gives = subst (Gives old new slice) (sym is.1) gives
 
--- ---- where something was taken
+-- ---- if something was taken
 
 module _ {B C A : Type 0} (ahead : Option A) (pin : A → Pin) (slice : A → Buffer) where
   pub none_given : (old new : CoreView B C) (done : Result Unit StepFault) → done ≡ Err NoMemory → IfSome ahead (λ (a : A). StepGives (pin a) (slice a) old new done)

@@ -56,7 +56,7 @@ module _ {B C : Type 0} (g : Ghosts B) (v : ValidatorGhosts C) (past : List Entr
       small (Err BootFault) steps played = steps.adds.small
       small (Err BootStopped) steps played = steps.adds.small
 
-    -- and goes on from whatever the core stood for
+    -- and goes on from whatever the core represented
     pub lasting_continues : Laws g → old.state.ended ≡ false → OnPlayed result (Continues g v.verdict (core_of past old) (core_of more new))
     lasting_continues laws live =
         continues_on g laws v.verdict (core_of past old) (core_of more new) live actor request result
@@ -80,7 +80,7 @@ still_pin past engine pin is = record { within = is.within; image = is.image }
 pub still_after_recount : {B C : Type 0} (past : List Entry) (engine : EngineView B C) → IsAfter past engine → IsAfter past (recounted engine)
 still_after_recount past engine after = record { played = after.played; gets = after.gets }
 
--- the limit that it met is told
+-- the limit that it met is reported
 pub limit_told : {B C : Type 0} (past : List Entry) (engine : EngineView B C) (count : ℕ) → IsAfter past engine → IsLimit (recounted engine) count → lasting_bound.full (length past) engine.state.tables count
 limit_told past engine count after is = ⊎_elim
     (λ (many : (count ≡ engine_limit) × (engine_limit ≤ engine.played)). inl (many.0, let played = after.played in let most = many.1 in omega (arith, played, most)))
@@ -96,7 +96,7 @@ is_first items engine none after = record {
       absurd (omega (arith, long));
 }
 
--- where something was played there is a last entry
+-- if something was played there is a last entry
 pub split_last : (es : List Entry) → 0 < length es → (before : List Entry) × ((e : Entry) × (es ≡ before ++ e ∷ []))
 split_last [] some = absurd (omega (arith, some))
 split_last (x ∷ []) some = ([], (x, refl))

@@ -197,7 +197,7 @@ module _ {T : Type 0} (m left right : Me (Option T) (View T)) (from n : ℕ) (fi
       let kept : drop (length m.0.seen / 2) m.0.seen ≡ replicate (n - n / 2) first = (λ i. drop (half_is i) (seen_is i)) ∙ drop_replicate (n / 2) n first half in
       split ∙ (λ i. (seat_view (from_is i + half_is i) (kept i), []))
 
--- a seat by which no call was made
+-- a seat before its first call
 module _ {B C : Type 0} (first : ServedView B C) (base : first.base ≡ length first.core.entries) (calm : first.fault ≡ None) (of : TableId) (me : Me (Option (ServedView B C)) (View (ServedView B C))) (number : ℕ) (one : Idle me number (first ∷ [])) where
   pub fresh_seat : IsSeat me (actor_of number) 0 None
   fresh_seat = record {

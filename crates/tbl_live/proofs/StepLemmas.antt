@@ -75,7 +75,7 @@ ended_by : (fault : StepFault) (note : BankNote) (ended : Bool) → note.ended �
 ended_by fault note true is e = is
 ended_by fault note false is e = let other : session_end note ≡ Ok tt = rw is refl in absurd (cc (e, other))
 
--- a step after which there is an entry more goes on from whatever the core stood for
+-- a step that added an entry goes on from whatever the core represented
 module _ {B C : Type 0} (g : Ghosts B) (laws : Laws g) (verdict : C → List ℕ → ℤ) (old new : CoreView B C) (live : old.state.ended ≡ false) where
   abbrev Legal : Type 0
   Legal = (opening : State) → FollowsFrom g opening old → FollowsFrom g opening new

@@ -24,7 +24,7 @@ pub one_buffer : (only double : Bool) → (only && double) ≡ false → only �
 one_buffer true double not_both is = not_both
 one_buffer false double not_both is = absurd (cc is)
 
--- as many handles are told as are given
+-- as many handles are reported as are given
 pub as_many_handles : (f : HandleView → Handle) (handles : List (Option HandleView)) (n : ℕ) → fold (λ a x. a + cond (is_some x) 1 0) n (map (option_map f) handles) ≡ fold (λ a x. a + cond (is_some x) 1 0) n handles
 as_many_handles f [] n = refl
 as_many_handles f (None ∷ handles) n = as_many_handles f handles (n + 0)

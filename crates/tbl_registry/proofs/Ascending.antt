@@ -144,7 +144,7 @@ module _ (buffers : List (Option LentBuffer)) (rows : List (Option Table)) (lent
             (lt, collected rows m None true found (omega (arith, lt, within)) (few_use buffers rows lent) (sym (used m one.1)) (found_is ∙ ap (λ (xs : List ℕ). padded xs) (sym gap)))
       ]
 
-  -- where no row is before the end, all were found
+  -- if no row is before the end, all were found
   pub all_found : (found : List (Option ℕ)) (end : ℕ) → end ≤ length rows → last_before end out ≡ None → found ≡ padded (rows_from end (drop end rows)) → found ≡ padded (rows_from 0 rows)
   all_found found end within last found_is =
       let e : 0 + end ≡ end = omega arith in

@@ -25,12 +25,12 @@ use Rattle.tbl_registry.proofs.Lent.{lent_settled, settled_same, its_buffer}
 pub other_option : (options bit : ℕ) → bit_and 0xFFF7 bit ≡ bit → has_option bit (bit_and options 0xFFF7) ≡ has_option bit options
 other_option options bit stays = rw (and_assoc bit options 0xFFF7, stays) refl
 
--- a change of what stands opens nothing
+-- a change of what is there opens nothing
 pub same_open : {X Y : Type 0} (f : X → Y) (o : Option X) → is_some (option_map f o) ≡ is_some o
 same_open f None = refl
 same_open f (Some x) = refl
 
--- this table stands in the row, in what the registry keeps
+-- this table is in the row, in what the registry keeps
 pub record FoundRow (rows : List (Option Table)) (handles : List (Option HandleView)) (buffers : List (Option LentBuffer)) (n : ℕ) (t : Table) : Type 0 where
   pub there : slice_index_or rows n None ≡ Some t
   pub sound : IsSound rows handles buffers
@@ -59,7 +59,7 @@ module _ {rows : List (Option Table)} {handles : List (Option HandleView)} {buff
   pinned : PinsOf n t handles
   pinned = pins_of rows handles n t there sound.leads
 
-  -- it changes under its name, and has a buffer where it uses one now
+  -- it changes under its name, and has a buffer if it uses one now
   pub changed_sound : (u : Table) (handles' : List (Option HandleView)) (buffers' : List (Option LentBuffer)) → u.name ≡ t.name → AtEachPlace (Leads (slice_set rows n (Some u))) handles'
       → IsSettled buffers buffers' n (uses_buffer (Some t)) (uses_buffer (Some u)) → IsSound (slice_set rows n (Some u)) handles' buffers'
   changed_sound u handles' buffers' name leads settled = record {
@@ -112,7 +112,7 @@ module _ {rows : List (Option Table)} {handles : List (Option HandleView)} {buff
 
   -- ---- a load opens, or has another image
 
-  -- no handle pins the image before the last, where a load may open
+  -- no handle pins the image before the last, if a load may open
   none_is_old : IsTable t → (t.load ≡ None → is_double t ≡ true → locker (tables_of rows handles) n t ≡ None) → (k : ℕ) (h : HandleView) → slice_index_or handles k None ≡ Some h → h.row ≡ Some n → h.pinned ≡ true → h.old ≡ true → ⊥
   none_is_old table free k h at of is old =
       let p = pinned k h at of is in

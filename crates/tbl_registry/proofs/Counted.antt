@@ -1,4 +1,4 @@
--- How many tables and open loads there are, where a row changes.
+-- How many tables and open loads there are, when a row changes.
 use Rattle.std.proofs.Common.{◌≡◌, ◌<◌, ◌≤◌, ◌+◌, ◌-◌, ℕ, List, length, count_by, slice_index_or, slice_set, Bool, true, false, not, is_some, IsSome, Option, Some, None, refl, arith}
 use mir.Val.{bool_byte}
 use Rattle.std.proofs.lemmas.List.Sums.{count_by-le-length}

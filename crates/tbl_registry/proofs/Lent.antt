@@ -1,4 +1,4 @@
--- Who has the shared working buffers, where a row changes.
+-- Who has the shared working buffers, when a row changes.
 use Rattle.std.proofs.Common.{◌≡◌, ◌<◌, ◌≤◌, ◌==◌, ℕ, List, length, count_by, slice_index_or, slice_set, Bool, true, false, ◌&&◌, ◌||◌, is_some, IsSome, map, position, Option, Some, None, refl, ap, sym, ◌∙◌, inl, inr, arith}
 use Rattle.std.specs.Prelude.{replicate}
 use Rattle.std.specs.Option.{option_map}
@@ -34,7 +34,7 @@ and_false : (b : Bool) → one_if (b && false) ≡ 0
 and_false true = refl
 and_false false = refl
 
--- a row changes, and has a buffer where it uses one now
+-- a row changes, and has a buffer if it uses one now
 pub lent_settled : (buffers after : List (Option LentBuffer)) (rows : List (Option Table)) (n : ℕ) (new : Option Table) → n < length rows → AreLent buffers rows
     → IsSettled buffers after n (uses_buffer (slice_index_or rows n None)) (uses_buffer new) → AreLent after (slice_set rows n new)
 lent_settled buffers after rows n new within lent settled = record {
@@ -99,7 +99,7 @@ first_out buffers row b found =
     let first = position-Some (is_out_to row) buffers b None (sym seen ∙ found) in
     (first.0, first.1, (out_row row row _ first.1).1)
 
--- a buffer is free where as many aren't in use, and so where a load may open
+-- a buffer is free if as many aren't in use, and so if a load may open
 pub room_for_load : (rows : List (Option Table)) (handles : List (Option HandleView)) (buffers : List (Option LentBuffer)) (row : ℕ) (t : Table) → AreLent buffers rows → (t.load ≡ None → open_refusal (tables_of rows handles) row t ≡ None)
     → uses_buffer (Some t) ≡ false → is_double t ≡ false → count_by is_some buffers < 4
 room_for_load rows handles buffers row t lent opens uses single =

@@ -90,6 +90,6 @@ named_hit name rows row named is = by (slice_index_or rows row None) refl is whe
   by None at is = absurd (cc is)
   by (Some t) at is = let same : t.name ≡ name = (bytes_eq-Decides t.name name).0 is in rw (← same) (named row t at)
 
--- a table stands in the row that is found
+-- a table is in the row that is found
 pub named_row : (name : List ℕ) (rows : List (Option Table)) (row : ℕ) → position (has_name name) rows ≡ Some row → IsSome (slice_index_or rows row None)
 named_row name rows row found = named_there name _ (position-Some (has_name name) rows row None found).1

@@ -106,7 +106,7 @@ module _ {rows : List (Option Table)} {handles : List (Option HandleView)} {buff
     moved_seen : tables_of rows' moved ≡ with_table row u (tables_of rows handles)
     moved_seen = ap (λ (hs : List (Option Handle)). tables_with rows' hs) (map-through (handle_of rows') (after_new_image row) (handle_of rows) handles (λ n h at. seen_moved h (not_old n h at)))
 
-    -- its handles lead on, where the image that was the last stays for them
+    -- its handles lead on, if the image that was the last stays for them
     module _ (table : IsTable t) (before : u.before ≡ cond stays t.last None) (closed : u.load ≡ None) where
       stays_where : (n : ℕ) (h : HandleView) → slice_index_or handles n None ≡ Some h → pins row h ≡ true → stays ≡ true
       stays_where n h at is = rw found_after (by (position (has (pins row)) handles) refl) where

@@ -16,7 +16,7 @@ found_first p xs n found =
 pub none_first : (p : ℕ → Bool) (xs : List ℕ) → p 0 ≡ false → position p xs ≡ None → length xs ≡ position_or_len p xs
 none_first p xs zero none = sym (position_or_len_is p xs (length xs) 0 (omega arith) (λ k h. position-None p xs k 0 none zero) (λ h. absurd (omega (arith, h))))
 
--- where no byte is zero, none of the first is
+-- if no byte is zero, none of the first is
 pub taken_no_zero : (n : ℕ) (xs : List ℕ) → HasNoZero xs → name_in (take n xs) ≡ take n xs
 taken_no_zero n xs none =
     let long : length xs ≤ position_or_len is_zero xs = omega (arith, ap length none, length-take (position_or_len is_zero xs) xs) in

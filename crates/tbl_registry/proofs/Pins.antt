@@ -1,4 +1,4 @@
--- Where a row changes: how handles lead on, how they are seen, and which of them pin an image of the row.
+-- When a row changes: how handles lead on, how they are seen, and which of them pin an image of the row.
 use Rattle.std.proofs.Common.{◌≡◌, ◌≢◌, ◌==◌, ◌-◌, ◌<◌, position, ℕ, List, map, length, slice_index_or, slice_set, Bool, true, false, not, ◌&&◌, ◌||◌, is_some, Option, Some, None, refl, ap, sym, ◌∙◌, subst, inl, inr, arith, cond, rules}
 use Rattle.std.specs.Option.{option_map, option_map_or}
 use Rattle.std.specs.List.{list_any}

@@ -12,7 +12,7 @@ use Rattle.access_desc.specs.Steps.{changed_at}
 use Rattle.tbl_registry.specs.Pins.{AtEachPlace}
 use Rattle.tbl_registry.specs.Lent.{one_if}
 
--- nothing stands at a free place
+-- nothing is at a free place
 pub get_or-replicate_None : {X : Type 0} (n k : ℕ) → slice_index_or (replicate {A = Option X} n None) k None ≡ None
 get_or-replicate_None zero k = refl
 get_or-replicate_None (suc n) zero = refl
@@ -25,7 +25,7 @@ changed_at-twice f g (None ∷ xs) zero = refl
 changed_at-twice f g (Some x ∷ xs) zero = refl
 changed_at-twice f g (x ∷ xs) (suc n) = ap (λ ys. x ∷ ys) (changed_at-twice f g xs n)
 
--- what holds at each place still does where something of which it holds is put
+-- what holds at each place still does if something that it holds of is put
 pub AtEachPlace-set : {X : Type 0} (P : X → Type 0) (xs : List (Option X)) (n : ℕ) (v : Option X) → AtEachPlace P xs → ForSome v P → (k : ℕ) → ForSome (slice_index_or (slice_set xs n v) k None) P
 AtEachPlace-set P [] n v all new k = all k
 AtEachPlace-set P (y ∷ ys) zero v all new zero = new
@@ -39,7 +39,7 @@ map-agree f g [] same = refl
 map-agree f g (None ∷ xs) same = ap (λ ys. None ∷ ys) (map-agree f g xs (λ k. same (suc k)))
 map-agree f g (Some x ∷ xs) same = cc (same zero x refl, map-agree f g xs (λ k. same (suc k)))
 
--- what is read at a place where something stands
+-- what is read at a place that has something
 pub at_place-read : {X : Type 0} (xs : List (Option X)) (n : ℕ) (o : Option X) (x : X) → o ≡ slice_index_or xs n o → o ≡ Some x → IsSome (slice_index_or xs n None) → slice_index_or xs n None ≡ Some x
 at_place-read [] n o x read is there = absurd (cc there)
 at_place-read (y ∷ ys) zero o x read is there = sym read ∙ is
@@ -58,7 +58,7 @@ count_set p xs n v d within = sum_by-set (λ x. one_if (p x)) xs n v d within
 
 -- ---- tests of what is seen
 
--- the first place that passes, where the tests agree at each
+-- the first place that passes, if the tests agree at each
 pub position-seen : {X Y : Type 0} (p : Option Y → Bool) (q : Option X → Bool) (f : X → Y) (xs : List (Option X)) → p None ≡ q None → AtEachPlace (λ x. p (Some (f x)) ≡ q (Some x)) xs → position p (map (option_map f) xs) ≡ position q xs
 position-seen {X} p q f xs none same = rw (first xs same, length-map xs (option_map f)) refl where
   first : (xs : List (Option X)) → AtEachPlace (λ x. p (Some (f x)) ≡ q (Some x)) xs → position_or_len p (map (option_map f) xs) ≡ position_or_len q xs
@@ -85,7 +85,7 @@ any_is_found {X} q xs = rw (found_at (position_or_len q xs) (length xs)) (by xs)
 pub none_passes : {X : Type 0} (xs : List (Option X)) (test : Option X → Bool) → test None ≡ false → position test xs ≡ None → AtEachPlace (λ x. test (Some x) ≡ false) xs
 none_passes xs test none free n x at = rw at at (position-None test xs n None free none)
 
--- none counts where there is no first
+-- none counts if there is no first
 pub none_counted : {X : Type 0} (p : Option X → Bool) (xs : List (Option X)) → p None ≡ false → position p xs ≡ None → count_by p xs ≡ 0
 none_counted {X} p xs none free = by xs (none_passes xs p none free) where
   by : (xs : List (Option X)) → AtEachPlace (λ x. p (Some x) ≡ false) xs → count_by p xs ≡ 0

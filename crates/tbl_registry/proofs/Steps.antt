@@ -30,7 +30,7 @@ not_zero n some = grind (arith, nat_tests)
 pub leads_nowhere : (tables other : Tables) (n : ℕ) → tables ≡ other → access_of tables n ≡ None → IsSome (access_of other n) → ⊥
 leads_nowhere tables other n same none some = cc (rw (← same, none) at some)
 
--- ---- the image before the last stays where a handle of the row pins it
+-- ---- the image before the last stays if a handle of the row pins it
 
 module _ {rows : List (Option Table)} {handles : List (Option HandleView)} {buffers : List (Option LentBuffer)} {row : ℕ} {t : Table} (stood : FoundRow rows handles buffers row t) where
   there : slice_index_or rows row None ≡ Some t

@@ -1,4 +1,4 @@
--- How a read or a write that failed is told.
+-- How a read or a write that failed is reported.
 use Rattle.std.proofs.Common.{◌≡◌, ◌≢◌, ℕ, Bool, true, false, List, refl, ◌∙◌, inl, inr}
 use Rattle.tbl_core.specs.declared.service.StartFault.{StartFault}
 use Rattle.tbl_core.specs.declared.service.StartFault.TheVariants.{Memory as NoMemory, BootFault as FirstFault, BootStopped as FirstStopped}
@@ -17,7 +17,7 @@ pub failed_rose : (failed : Bool) (before after : ℕ) → HasFailed failed befo
 failed_rose true before after rose is = rose
 failed_rose false before after still is = absurd cc
 
--- a read that failed is told by 3, unless the end record wasn't written
+-- a read that failed is reported by 3, unless the end record wasn't written
 reads_open : (whole : Bool) (result : ℕ) (bytes : List ℕ) (before after : Taken) → WritesEnd (status_of Open true whole) result bytes before after → IsEnded result → (result ≢ 3) → ⊥
 reads_open whole result bytes before after (inl w) ended other = other w.0
 reads_open whole result bytes before after (inr w) ended other = not_ended result (inr w.0) ended
@@ -34,7 +34,7 @@ reads_of SinkFailed true whole result bytes unread unread_then mid after rose cu
 reads_of Memory true whole result bytes unread unread_then mid after rose cut w ended other = absurd (let e = cut refl in cc)
 reads_of Unwritten true whole result bytes unread unread_then mid after rose cut w ended other = absurd (let e = cut refl in cc)
 
--- where the entries were written
+-- if the entries were written
 end_writes : (status result : ℕ) (bytes : List ℕ) (unwritten : ℕ) (mid after : Taken) → mid.1 ≡ unwritten → WritesEnd status result bytes mid after → (result ≢ 4) → after.1 ≡ unwritten
 end_writes status result bytes unwritten mid after still (inl w) other = w.2 ∙ still
 end_writes status result bytes unwritten mid after still (inr w) other = absurd (other w.0)
@@ -56,7 +56,7 @@ failures_of standing failed whole bytes r mid cause cut why w = record {
   writes = writes_of standing (status_of standing failed whole) r.status bytes r.unwritten mid (r.taken_then, r.unwritten_then) why w;
 }
 
--- where the service didn't begin
+-- if the service didn't begin
 unbegun_writes : (fault : StartFault) (result : ℕ) (before after : Taken) → FinishesUnbegun fault result before after → (result ≢ 4) → after.1 ≡ before.1
 unbegun_writes NoMemory result before after w other = w.2
 unbegun_writes FirstFault result before after w other = end_writes 7 result (end_bytes 7 0 0) before.1 before after refl w other

@@ -106,7 +106,7 @@ module _ {B C : Type 0} (g : Ghosts B) (verdict : C → List ℕ → ℤ) where
     keeps = keeps_nothing standing (left ++ more) kept is;
   }
 
-  -- or what is left was played up to what stands there
+  -- or what is left was played up to what is there
   pub feeds_left : (standing : Standing) (a b : Moment B C) (fed left kept : List ℕ) → PlaysOf g verdict standing a b fed left → Leaves standing left → IsKept standing left kept → Feeds g verdict standing a b fed kept
   feeds_left standing a b fed left kept p leaves keeps = record {
     entries = p.0;

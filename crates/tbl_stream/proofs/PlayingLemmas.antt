@@ -106,7 +106,7 @@ no_boot SinkFailed ended is live = absurd is
 no_boot Unwritten ended is live = absurd is
 
 module _ {B C : Type 0} (g : Ghosts B) (verdict : C → List ℕ → ℤ) where
-  -- the engine at most counted its images anew
+  -- the engine at most counted its images again
   pub plays_nothing : (standing : Standing) (old new : Moment B C) → IsQuiet standing → Goes g verdict old.played.engine new.played.engine [] → new.played.place ≡ old.played.place → new.played.offset ≡ old.played.offset
       → new.taken ≡ old.taken → new.unwritten ≡ old.unwritten → new.played.engine.state.ended ≡ false → Plays g verdict standing old new []
   plays_nothing standing old new quiet goes place offset taken unwritten live = record {
@@ -246,7 +246,7 @@ module _ {B C : Type 0} (g : Ghosts B) (verdict : C → List ℕ → ℤ) where
     boot = boot_stop stop ending old.unwritten new.unwritten new.played.engine.state.ended (e ∷ []) why boot;
   }
 
--- ---- what ends a stream with a record says nothing of what stands after it
+-- ---- what ends a stream with a record says nothing of what comes after it
 
 pub stop_leaves : (stop : Option Standing) (behind : List ℕ) → IsStop stop → MatchOption stop ⊤ (λ standing. Leaves standing behind)
 stop_leaves None behind is = tt
@@ -295,7 +295,7 @@ refusal_quiet Unwritten is = absurd is
 slice_is : (bytes : List ℕ) (at : ℕ) → take (length bytes - at) (drop at bytes) ≡ drop at bytes
 slice_is bytes at = ap (λ n. take n (drop at bytes)) (sym (length-drop at bytes)) ∙ take-length (drop at bytes)
 
--- it was played, and what is behind it is left
+-- it was played, and what comes after it is left
 pub item_left : (e : Entry) (p : Pair) (bytes : List ℕ) (at used : ℕ) → pair_of e ≡ p → IsItem p used (take (length bytes - at) (drop at bytes)) → drop at bytes ≡ joined (pairs_of (e ∷ [])) ++ drop (at + used) bytes
 item_left e p bytes at used pair item =
     let front : take used (drop at bytes) ≡ joined (pairs_of (e ∷ [])) = ap (take used) (sym (slice_is bytes at)) ∙ item.spelled ∙ sym (joined_one e p pair) in

@@ -77,7 +77,7 @@ module _ {B C : Type 0} (g : Ghosts B) (verdict : C → List ℕ → ℤ) where
     near = omega (arith, front_length rest begun);
   }
 
-  -- so it was where the stream was open
+  -- so it was if the stream was open
   pub reads_at : (standing : Standing) (m : Moment B C) (rest : List ℕ) → standing ≡ Open → IsFront rest → m.played.engine.state.ended ≡ false → Reads g verdict standing m m (rest ++ []) rest
   reads_at standing m rest is begun live = subst (λ (s : Standing). Reads g verdict s m m (rest ++ []) rest) (sym is) (reads_nothing m rest begun live)
 

@@ -1,4 +1,4 @@
--- From the end of the reading to the service that was told.
+-- From the end of the reading to the service that was reported.
 use Rattle.std.proofs.Common.{◌≡◌, ◌≢◌, ◌≤◌, ◌⊎◌, ◌+◌, ℕ, eqb, Bool, false, List, [], ◌++◌, length, Option, refl, sym, ap, subst, ◌∙◌, arith, inl, inr, ℤ}
 use Rattle.std.specs.Prelude.{◌^◌}
 use Rattle.std.specs.List.{AllByRecursion}
@@ -149,7 +149,7 @@ module _ {B C : Type 0} (g : Ghosts B) (verdict : C → List ℕ → ℤ) (o : O
       → Lives g verdict o r
   lives_of told why up w = by_standing standing refl told why up w
 
--- ---- where the service didn't begin
+-- ---- if the service didn't begin
 
 -- nothing was served, and the bank is as it was but for a boot that wasn't done
 module _ {B C : Type 0} (g : Ghosts B) (laws : Laws g) (verdict : C → List ℕ → ℤ) (o : Opening B C) (first : IsFirst o.state) (bank_then : B)

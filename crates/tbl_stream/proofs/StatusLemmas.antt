@@ -1,4 +1,4 @@
--- What a status tells of the end of the input and of a boot.
+-- What a status says of the end of the input and of a boot.
 use Rattle.std.proofs.Common.{◌≡◌, ◌≢◌, ℕ, eqb, Bool, true, false, List, [], length, refl, sym, ap, subst, arith, ◌⊎◌, inl, inr}
 use Rattle.std.specs.Prelude.{if◌then◌else◌}
 use Rattle.std.proofs.lemmas.Bool.{eqb-true}
@@ -66,9 +66,9 @@ pub not_told : (status : ℕ) → IsBrokenOff status → IsEnded status ⊎ IsBo
 not_told status broken (inl ended) = not_ended status broken ended
 not_told status broken (inr booted) = not_booted status broken booted
 
--- ---- which end a status tells
+-- ---- which end a status says
 
--- a status that tells no end of the input
+-- a status that says no end of the input
 pub tells_none : (status : ℕ) (rest : List ℕ) (at_end read_failed : Type 0) → (IsEnded status → ⊥) → EndsAs status rest at_end read_failed
 tells_none status rest at_end read_failed never = record {
   done = λ e. absurd (never (inl e));
@@ -99,7 +99,7 @@ end_as false rest at_end read_failed e (inr short) end = record {
   bad = λ _. inr (short, end);
 }
 
--- what is left is what the status tells
+-- what is left is what the status says
 pub ends_as : (standing : Standing) (failed : Bool) (rest kept : List ℕ) (at_end read_failed : Type 0) → Leaves standing rest → IsKept standing rest kept
     → (standing ≡ Open → failed ≡ false → at_end) → (failed ≡ true → read_failed)
     → EndsAs (status_of standing failed (eqb (length kept) 0)) rest at_end read_failed
@@ -186,7 +186,7 @@ not_sink SinkFailed failed whole is = λ e. is refl
 not_sink Memory failed whole is = λ e. omega (arith, e)
 not_sink Unwritten failed whole is = λ e. omega (arith, e)
 
--- no stream is told as usage, whether its end was written or the sink failed inside it
+-- no stream is reported as usage, whether its end was written or the sink failed inside it
 written_not_usage : (status result : ℕ) (bytes : List ℕ) (before after : Taken) → IsStatus status → WritesEnd status result bytes before after → result ≢ 2
 written_not_usage status result bytes before after is (inl written) = subst (λ n. n ≢ 2) (sym written.0) (known_not_usage status is)
 written_not_usage status result bytes before after is (inr failed) = λ two. omega (arith, failed.0, two)

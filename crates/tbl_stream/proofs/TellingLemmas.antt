@@ -36,7 +36,7 @@ cut_front entries before taken cut =
 
 -- ---- what the sink lacks
 
--- no entry, where they were written and then something
+-- no entry, if they were written and then something
 lacks_none : (entries : List Entry) (before mid after : Option (List ℕ)) (more : List ℕ) → IsWritten 0 entries before mid → after ≡ append_known mid more → LacksOne entries before after
 lacks_none entries before mid after more written grown = record {
   front = entries;
@@ -96,7 +96,7 @@ module _ (status result : ℕ) (entries : List Entry) (before mid after : Option
     lacks = lacks_last entries before mid after cut w.1;
   }
 
-  -- or memory ran out before anything was told
+  -- or memory ran out before anything was written
   pub tells_unbegun : entries ≡ [] → (result ≡ 1) × (after ≡ before) → Tells result entries before after
   tells_unbegun none w = record {
     whole = λ ended. absurd (not_told result (inl w.0) ended);

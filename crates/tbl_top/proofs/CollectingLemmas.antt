@@ -31,7 +31,7 @@ put_last-snoc : (scripts : List (List Request)) (pairs : List Pair) (p : Pair) �
 put_last-snoc scripts [] p = refl
 put_last-snoc scripts (q ∷ pairs) p = put_last-snoc (pushed scripts q) pairs p
 
--- within a piece: these records were taken, and after them stands what wasn't looked at yet
+-- within a piece: these records were taken, and after them comes what wasn't looked at yet
 pub record IsTaking (fed : List ℕ) (at : ℕ) (pairs : List Pair) (c : Collecting) : Type 0 where
   pub parts : fed ≡ joined pairs ++ drop at c.rest
   pub each : AllByRecursion IsRecord pairs
@@ -84,7 +84,7 @@ takes_last standing fed at most pairs c new leaves near scripts count rest t = r
 
 -- ---- the whole reading
 
--- before the last piece stood these records, and at most the beginning of a further one
+-- before the last piece there were these records, and at most the beginning of a further one
 stops_behind : (fed last : List ℕ) (most : ℕ) (pairs : List Pair) (c : Collecting) → length last ≤ 4096 → HasTaken Open fed most pairs c → StopsReading (fed ++ last)
 stops_behind fed last most pairs c short t = record {
   records = pairs;

@@ -1,4 +1,4 @@
--- Where the input is a session's records and nothing else, and nothing failed, all of it is played.
+-- If the input is a session's records and nothing else, and nothing failed, all of it is played.
 use Rattle.std.proofs.Common.{◌≡◌, ℕ, ℤ, ◌<◌, List, [], ◌++◌, length, Option, Some, None, refl, sym, ap, subst, ◌∙◌, append_assoc, arith, inl, inr}
 use Rattle.std.specs.Prelude.{IfSome}
 use Rattle.std.specs.Io.KnownBytes.{prepend_known, IsAtEnd}
@@ -22,7 +22,7 @@ unfolding is_bad
 bad_is_some rest bad none = let h : IsBad [] = subst IsBad none bad in cc
 
 module _ {B C : Type 0} (plays : ℕ → List Pair → List Entry → Type 0) (g : Ghosts B) (verdict : C → List ℕ → ℤ) (o : Opening B C) (r : Ran B) (s : Session plays g verdict o r) (input left : List ℕ) (parts : input ≡ s.read ++ left) (whole : IsWellFormed input) where
-  -- where no record can follow, nothing is left at all
+  -- if no record can follow, nothing is left at all
   nothing_left : EndsBefore s.pairs (s.rest ++ left) → s.rest ++ left ≡ []
   nothing_left ends = no_rest s.pairs whole.pairs (s.rest ++ left) s.each whole.each whole.few ends
       (sym (append_assoc (joined s.pairs) s.rest left) ∙ ap (λ (xs : List ℕ). xs ++ left) (sym s.parts) ∙ sym parts ∙ whole.parts)

@@ -1,4 +1,4 @@
--- From what a crew played to the session that was told.
+-- From what a crew played to the session that was reported.
 use Rattle.std.proofs.Common.{◌≡◌, ◌≢◌, ℕ, List, [], length, Bool, false, Option, Some, None, refl, sym, subst, ◌∙◌, inl, inr}
 use Rattle.std.proofs.lemmas.List.{append-nil}
 use Rattle.tbl_kinds.specs.Records.{Pair}
@@ -21,7 +21,7 @@ use Rattle.tbl_top.specs.declared.playback.Standing.TheVariants.{Open, Bad, Full
 use Rattle.tbl_kinds.specs.declared.entry.Entry.{Entry}
 use Rattle.tbl_kinds.specs.declared.request.Request.{Request}
 
--- where nothing was read nobody requested anything
+-- if nothing was read nobody requested anything
 pub nothing_requested : (status : ℕ) → ByActor status [] []
 nothing_requested status = record {
   each = λ actor. record { left = []; parts = refl; whole = λ _. refl };
@@ -40,9 +40,9 @@ by_actor status fault scripts pairs entries same none played = record {
   actors = played.actors;
 }
 
--- ---- how the session stands
+-- ---- the standing of the session
 
--- what was read stays what it was where a fault or a stop goes before it
+-- what was read stays what it was if a fault or a stop has precedence over it
 module _ (read : Standing) (pairs : List Pair) (kept fed : List ℕ) (failed : Bool) (at_end : Type 0) (h : HasRead read pairs kept fed failed at_end) where
   over : (standing : Standing) → Leaves standing (length pairs) h.behind → IsKept standing h.behind kept → (standing ≢ Open) → ¬ HasPlayedAll standing → HasRead standing pairs kept fed failed at_end
   over standing leaves keeps closed left = record {
@@ -78,7 +78,7 @@ module _ (read : Standing) (pairs : List Pair) (kept fed : List ℕ) (failed : B
   read_behind fault standing (inl is) = subst (λ (s : Standing). HasRead s pairs kept fed failed at_end) (sym is) (behind_fault fault)
   read_behind fault standing (inr stop) = behind_stop standing stop
 
--- where all was played no step answered a fault
+-- if all was played no step answered a fault
 fault_none : (fault : Option StepFault) (read : Standing) → HasPlayedAll (standing_behind fault read) → fault ≡ None
 fault_none None read all = refl
 fault_none (Some NoMemory) read all = absurd all
@@ -99,7 +99,7 @@ pub none_behind : (fault : Option StepFault) (read standing : Standing) → Stan
 none_behind fault read standing (inl is) all = fault_none fault read (subst HasPlayedAll is all)
 none_behind fault read standing (inr stop) all = absurd (stop_none standing stop all)
 
--- ---- what is told of it
+-- ---- what is reported of it
 
 input_boot : {B C : Type 0} (read : Standing) (core : CoreView B C) → IsOfInput read → core.state.ended ≡ false → TellsBoot read core
 input_boot Open core is live = live

@@ -35,7 +35,7 @@ use Rattle.tbl_kinds.specs.declared.request.Request.{Request}
 
 -- ---- one record more
 
--- the record at the front of the script stands last among those that were played
+-- the record at the front of the script is the last of those that were played
 pub plays_more : (before after : List Entry) (e : Entry) (script rest : List Pair) (actor : Actor) (request : Request)
     → after ≡ before ++ e ∷ [] → e.actor ≡ actor → e.request ≡ request → script ≡ record { actor = actor; request = request } ∷ rest → pairs_of after ++ rest ≡ pairs_of before ++ script
 plays_more before after e script rest actor request added of_actor of_request front =
@@ -53,7 +53,7 @@ ending_of_script SinkFailed ending = absurd ending
 ending_of_script Memory ending = absurd ending
 ending_of_script Unwritten ending = absurd ending
 
--- where it was broken off nothing is written
+-- if it was broken off nothing is written
 pub told_nothing : (standing : Standing) (text : List ℕ) (before : Taken) → IsOfScript standing → (standing ≢ Open) → TellsText (status_of standing false true) text before before
 told_nothing Open text before known other = absurd (other refl)
 told_nothing BootFault text before known other = record { whole = λ e. absurd (omega (arith, e)); broken = λ e. absurd (omega (arith, e)); silent = inr (inr refl); calm = λ _. refl }
@@ -136,7 +136,7 @@ module _ {B C : Type 0} (seed rounds : ℕ) (g : Ghosts B) (verdict : C → List
     by SinkFailed is known = absurd known
     by Unwritten is known = absurd known
 
--- ---- where the service didn't begin
+-- ---- if the service didn't begin
 
 module _ {B C : Type 0} (seed rounds : ℕ) (g : Ghosts B) (laws : Laws g) (verdict : C → List ℕ → ℤ) (o : Opening B C) (first : IsFirst o.state) (r : Ran B)
     (crash : g.tells_moments → LeavesOnly g.clock g.left_since o.bank r.bank_then (λ image. Shows o.state.store (store_of image))) (nothing : r.taken_then ≡ r.taken) (still : r.unwritten_then ≡ r.unwritten) where

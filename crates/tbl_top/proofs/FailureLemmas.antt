@@ -1,4 +1,4 @@
--- A read or a write that failed is told by the status.
+-- A read or a write that failed is reported by the status.
 use Rattle.std.proofs.Common.{◌≡◌, ◌≢◌, ℕ, Bool, true, false, List, inl, inr, refl, subst, ◌∙◌}
 use Rattle.tbl_outside.specs.Counts.{Rose}
 use Rattle.tbl_session.specs.Session.{Ran, IsEnded}
@@ -19,7 +19,7 @@ failed_rose false before after still is = absurd cc
 
 -- ---- reads
 
--- after an end record with a status that tells no end of the input, none is told
+-- after an end record with a status that says no end of the input, none is reported
 ended_with : (status result : ℕ) (entries : List Entry) (before after : Taken) → ¬ IsEnded status → WritesEnd status result entries before after → ¬ IsEnded result
 ended_with status result entries before after never (inl w) ended = never (subst IsEnded w.0 ended)
 ended_with status result entries before after never (inr w) ended = not_ended result (inr w.0) ended
@@ -39,7 +39,7 @@ reads_of Unwritten true whole result entries unread unread_then mid after rose c
 
 -- ---- writes
 
--- where the entries were written
+-- if the entries were written
 end_writes : (status result : ℕ) (entries : List Entry) (unwritten : ℕ) (mid after : Taken) → mid.1 ≡ unwritten → WritesEnd status result entries mid after → (result ≢ 4) → after.1 ≡ unwritten
 end_writes status result entries unwritten mid after still (inl w) other = w.2 ∙ still
 end_writes status result entries unwritten mid after still (inr w) other = absurd (other w.0)
@@ -63,7 +63,7 @@ failures_of standing failed whole entries r mid cause cut why w = record {
   writes = writes_of standing (status_of standing failed whole) r.status entries r.unwritten mid (r.taken_then, r.unwritten_then) why w;
 }
 
--- where the service didn't begin
+-- if the service didn't begin
 alone_writes : (status result : ℕ) (before after : Taken) → WritesEndAlone status result before after → (result ≢ 4) → after.1 ≡ before.1
 alone_writes status result before after (inl (inl w)) other = w.2
 alone_writes status result before after (inl (inr w)) other = absurd (other w.0)

@@ -1,4 +1,4 @@
--- A listing of which nothing was written.
+-- A listing before anything of it was written.
 use Rattle.std.proofs.Common.{◌≡◌, ◌≢◌, ℕ, List, Result, Ok, Err, refl, sym, ◌∙◌, arith, ◌⊎◌, inl, inr}
 use Rattle.cds_layout.specs.declared.listing.TextFault.{TextFault}
 use Rattle.cds_layout.specs.declared.listing.TextFault.TheVariants.{Fault, Memory}

@@ -1,4 +1,4 @@
--- What is told of a session that is played in order: each entry before the next record is played, and a read that failed last.
+-- What is written of a session that is played in order: each entry before the next record is played, and a read that failed last.
 use Rattle.std.proofs.Common.{◌≡◌, ℕ, ℤ, Bool, true, false, List, [], ◌∷◌, ◌++◌, length, take, Option, refl, sym, arith, inl, inr, ◌∙◌}
 use Rattle.std.proofs.lemmas.List.{append-nil}
 use Rattle.std.specs.Io.KnownBytes.{append_known}
@@ -21,7 +21,7 @@ use Rattle.tbl_kinds.specs.declared.entry.Entry.{Entry}
 
 -- ---- what the sink lacks
 
--- no entry, where they were written and then something
+-- no entry, if they were written and then something
 lacks_none : (entries : List Entry) (before mid after : Option (List ℕ)) (more : List ℕ) → IsWritten before entries mid → after ≡ append_known mid more → LacksOne entries before after
 lacks_none entries before mid after more written grown = record {
   front = entries;
@@ -84,7 +84,7 @@ in_turn standing failed whole entries r mid cause cut written w = (
   reads_last standing failed whole entries r mid cause cut written w,
 )
 
--- where the service didn't begin
+-- if the service didn't begin
 lacks_alone : (status result : ℕ) (before after : Taken) → WritesEndAlone status result before after → LacksOne [] before.0 after.0
 lacks_alone status result before after (inl w) = lacks_at_end status result [] before.0 before after (sym (append_known-nil before.0)) w
 lacks_alone status result before after (inr w) = lacks_none [] before.0 before.0 after.0 [] (sym (append_known-nil before.0)) (w.1 ∙ sym (append_known-nil before.0))

@@ -52,7 +52,7 @@ pub where_none : {T : Type 0} (o : Option T) (m n : ℕ) → m < n → MatchOpti
 where_none None m n h = h
 where_none (Some x) m n h = omega arith
 
--- ---- what ends a session with a record says nothing of what stands after it
+-- ---- what ends a session with a record says nothing of what comes after it
 
 pub stop_leaves : (stop : Option Standing) (a b played : ℕ) (behind : List ℕ) → TellsLast stop a b → MatchOption stop ⊤ (λ standing. Leaves standing played behind)
 stop_leaves None a b played behind why = tt

@@ -96,7 +96,7 @@ empty_right : (xs ys : List ℕ) → xs ++ ys ≡ [] → ys ≡ []
 empty_right [] ys e = e
 empty_right (x ∷ xs) ys e = absurd cc
 
--- where nothing was fed, nothing is left
+-- if nothing was fed, nothing is left
 pub begins_empty : {B C : Type 0} (p : Playing B C) → bytes_fed p ≡ [] → IsBeginning (length p.core.entries) p.rest
 begins_empty p none = inl (empty_right (joined (pairs_of p.core.entries)) p.rest none)
 

@@ -161,7 +161,7 @@ recovers_both opening entries image kit admit next history at answered = all_com
   back = gives_back opening entries at.0 image at.2 history (state_from image kit admit) next answered place e name r registers;
 })
 
--- where no boot ended the first one, what its bank may leave at its end shows the blocks that stand then
+-- if no boot ended the first one, what its bank may leave at its end shows the blocks that are there then
 exit_shows : (opening : State) (entries : List Entry) (image : List ℕ) → AtExit opening entries image → StaysUp entries → Shows (run_at opening entries (length entries)).state.store (store_of image)
 exit_shows opening entries image (inl (inl shows)) up = shows
 exit_shows opening entries image (inl (inr next)) up = let none : slice_get entries (length entries) ≡ None = slice_get_past entries (length entries) (omega arith) in absurd (cc (none, next.1))

@@ -1,4 +1,4 @@
--- From the end of the reading to the session that was told.
+-- From the end of the reading to the session that was reported.
 use Rattle.std.proofs.Common.{◌≡◌, ◌≢◌, ◌≤◌, ℕ, eqb, Bool, true, List, [], length, Option, refl, sym, ap, subst, ◌∙◌, arith, inl, inr, ℤ}
 use Rattle.std.proofs.lemmas.List.{length-map}
 use mathlib.Core.Logic.{dite}
@@ -189,7 +189,7 @@ no_reading = record {
   short = omega arith;
 }
 
--- ---- where the service didn't begin
+-- ---- if the service didn't begin
 
 -- nothing was served, and the bank is as it was but for a boot that wasn't done
 module _ {B C : Type 0} (g : Ghosts B) (laws : Laws g) (verdict : C → List ℕ → ℤ) (o : Opening B C) (first : IsFirst o.state) (bank_then : B)

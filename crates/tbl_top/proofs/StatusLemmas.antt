@@ -1,4 +1,4 @@
--- What a status tells of the end of the input, of a boot, and of what the sink took.
+-- What a status says of the end of the input, of a boot, and of what the sink took.
 use Rattle.std.proofs.Common.{◌≡◌, ◌≢◌, ℕ, eqb, Bool, true, false, List, [], length, Option, refl, sym, ap, subst, ◌∙◌, arith, ◌⊎◌, inl, inr}
 use Rattle.std.specs.Io.KnownBytes.{append_known}
 use Rattle.std.specs.Prelude.{if◌then◌else◌}
@@ -56,9 +56,9 @@ not_told : (status : ℕ) → IsBrokenOff status → IsEnded status ⊎ IsBooted
 not_told status broken (inl ended) = not_ended status broken ended
 not_told status broken (inr booted) = not_booted status broken booted
 
--- ---- which end a status tells
+-- ---- which end a status says
 
--- a status that tells no end of the input
+-- a status that says no end of the input
 pub tells_none : (status played : ℕ) (rest : List ℕ) (at_end read_failed : Type 0) → (IsEnded status → ⊥) → EndsAs status played rest at_end read_failed
 tells_none status played rest at_end read_failed never = record {
   done = λ e. absurd (never (inl e));
@@ -93,7 +93,7 @@ end_as false played rest at_end read_failed e (inr short) end = record {
   full = λ e. absurd (omega (arith, e));
 }
 
--- a failed read is told as such
+-- a failed read is reported as such
 cut_as : (played : ℕ) (rest : List ℕ) (at_end read_failed : Type 0) → IsBeginning played rest → read_failed → EndsAs 3 played rest at_end read_failed
 cut_as played rest at_end read_failed begun cause = record {
   done = λ e. absurd (omega (arith, e));
@@ -102,7 +102,7 @@ cut_as played rest at_end read_failed begun cause = record {
   full = λ e. absurd (omega (arith, e));
 }
 
--- what is left is what the status tells
+-- what is left is what the status says
 pub ends_as : (standing : Standing) (failed : Bool) (played : ℕ) (rest kept : List ℕ) (at_end read_failed : Type 0) → Leaves standing played rest → IsKept standing rest kept
     → (standing ≡ Open → failed ≡ false → at_end) → (failed ≡ true → read_failed)
     → EndsAs (status_of standing failed (eqb (length kept) 0)) played rest at_end read_failed
@@ -254,7 +254,7 @@ not_sink SinkFailed failed whole is = λ e. is refl
 not_sink Memory failed whole is = λ e. omega (arith, e)
 not_sink Unwritten failed whole is = λ e. omega (arith, e)
 
--- a status that tells an end of the input
+-- a status that says an end of the input
 pub ended_standing : (standing : Standing) (failed whole : Bool) → IsEnded (status_of standing failed whole) → HasPlayedAll standing
 ended_standing Open failed whole ended = tt
 ended_standing Bad failed whole ended = tt
@@ -265,7 +265,7 @@ ended_standing SinkFailed failed whole ended = absurd (not_ended 4 (inr refl) en
 ended_standing Memory failed whole ended = absurd (not_ended 1 (inl refl) ended)
 ended_standing Unwritten failed whole ended = absurd (not_ended 1 (inl refl) ended)
 
--- no session is told as usage, whether its end was written or the sink failed inside it
+-- no session is reported as usage, whether its end was written or the sink failed inside it
 written_not_usage : (status result : ℕ) (entries : List Entry) (before after : Taken) → IsStatus status → WritesEnd status result entries before after → result ≢ 2
 written_not_usage status result entries before after is (inl written) = subst (λ n. n ≢ 2) (sym written.0) (known_not_usage status is)
 written_not_usage status result entries before after is (inr failed) = λ two. omega (arith, failed.0, two)

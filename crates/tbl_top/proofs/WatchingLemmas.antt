@@ -1,4 +1,4 @@
--- From what a watched crew played to the report that was told.
+-- From what a watched crew played to the report that was written.
 use Rattle.std.proofs.Common.{◌≡◌, ◌≢◌, ◌≤◌, ◌⊎◌, ℕ, ℤ, eqb, Bool, true, List, [], length, Option, Some, None, refl, sym, ap, subst, ◌∙◌, arith, inl, inr}
 use Rattle.std.specs.Io.KnownBytes.{prepend_known, IsAtEnd}
 use Rattle.tbl_kinds.specs.Records.{Pair}
@@ -96,7 +96,7 @@ text_told (Some why) watched all read failed whole result before after ends told
     let no = no_report _ result ends status.0 status.1 in
     record { whole = λ zero. absurd (no.0 zero); broken = λ four. absurd (no.1 four); silent = told.silent; calm = told.calm }
 
--- ---- beside a sink that doesn't tell what it took
+-- ---- with a sink that doesn't show what it took
 
 untold : (s : Standing) (entries : List Entry) → TellsFront s None entries None
 untold Open entries = refl
@@ -130,7 +130,7 @@ breaks Memory failed whole result entries faults faults_then zero four rose = ab
 breaks SinkFailed failed whole result entries faults faults_then zero four rose = absurd (omega (arith, zero))
 breaks Unwritten failed whole result entries faults faults_then zero four rose = absurd (omega (arith, zero))
 
--- a session stands by no failure of the sink before anything is written
+-- the standing of a session is no failure of the sink before anything is written
 pub not_sink_failed : (end : Option WatchEnd) (read : Standing) → IsOfInput read → standing_behind (fault_of end) read ≢ SinkFailed
 not_sink_failed None Open is e = absurd (cc)
 not_sink_failed None Bad is e = absurd (cc)
@@ -193,7 +193,7 @@ module _ {B C : Type 0} (g : Ghosts B) (verdict : C → List ℕ → ℤ) (o : O
     told = text_told end looks (watched_by o.state core.entries) read failed (eqb (length kept) 0) r.status (r.taken, r.unwritten) (r.taken_then, r.unwritten_then) ends told;
   }
 
--- a read that failed is told by it, and a write
+-- a read that failed is reported by it, and a write
 reads_told : {B : Type 0} (standing : Standing) (failed whole : Bool) (r : Ran B) → HasFailed failed r.unread r.unread_then → (failed ≡ true → HasPlayedAll standing → standing ≡ Open) → ReportsAs (status_of standing failed whole) r.status
     → IsEnded r.status → (r.status ≢ 3) → r.unread_then ≡ r.unread
 reads_told standing failed whole r cause cut (inl status) ended other =
@@ -215,7 +215,7 @@ ends_not_usage s failed whole result (inl same) two = known_not_usage (status_of
 ends_not_usage s failed whole result (inr (zero, inl one)) two = omega (arith, one, two)
 ends_not_usage s failed whole result (inr (zero, inr four)) two = omega (arith, four, two)
 
--- ---- where the service didn't begin
+-- ---- if the service didn't begin
 
 unbegun_finishes : (fault : StartFault) (result faults faults_then : ℕ) → result ≡ unbegun_status fault → faults_then ≡ faults → FinishesUnbegun fault result (None, faults) (None, faults_then)
 unbegun_finishes NoStart result faults faults_then is still = (is, refl, still)

@@ -34,7 +34,7 @@ three_admit_all first second third (Drill seed rounds) admit spells = spells.3
 three_admit_all first second third Make admit spells = spells.1
 three_admit_all first second third (Describe shape) admit spells = spells.2
 
--- so what they spell is what they spell where all are admitted
+-- so what they spell is what they spell if all are admitted
 admitting : (words : List (List ℕ)) (found : Option Word) → ((requested : Word) → (found ≡ Some requested) ↔ Spells words requested all_admitted)
     → ((requested : Word) (admit : Admitted) → Spells words requested admit → admit ≡ all_admitted)
     → (requested : Word) (admit : Admitted) → ((found ≡ Some requested) × (admit ≡ all_admitted)) ↔ Spells words requested admit
@@ -70,7 +70,7 @@ module _ (word more spacecraft processors : List ℕ) (lists : Admitted) (found 
   unfolding there_or
   found_only admit spells = ap (there_or lists) (sym is ∙ (spelled admit).1 spells)
 
-  -- where the words spell this under the lists, they spell nothing else
+  -- if the words spell this under the lists, they spell nothing else
   only : (named : Word) → Spells (word ∷ more ∷ spacecraft ∷ processors ∷ []) named lists → (requested : Word) (admit : Admitted) → ◌≡◌ {A = Option CommandWord} (Some (named, lists)) (Some (requested, admit))
       → Spells (word ∷ more ∷ spacecraft ∷ processors ∷ []) requested admit
   unfolding there_or
@@ -98,7 +98,7 @@ module _ (word more spacecraft processors : List ℕ) (lists : Admitted) (found 
     back Make admit spells = let lengths = ap length spells.0 in absurd (omega (arith, lengths))
     back (Describe shape) admit spells = let lengths = ap length spells.0 in absurd (omega (arith, lengths))
 
--- where the last two are no lists, nothing is spelled
+-- if the last two are no lists, nothing is spelled
 pub of_no_lists : (word more spacecraft processors : List ℕ) (found : Option Admitted) → found ≡ None → ((admit : Admitted) → (found ≡ Some admit) ↔ SpellsAdmit spacecraft processors admit)
     → (requested : Word) (admit : Admitted) → Spells (word ∷ more ∷ spacecraft ∷ processors ∷ []) requested admit → ◌≡◌ {A = Option CommandWord} None (Some (requested, admit))
 of_no_lists word more spacecraft processors found is spelled Play admit spells = absurd (cc (is, (spelled admit).1 spells.2))
@@ -256,7 +256,7 @@ watch_by_letter (Drill seed rounds) is = absurd (omega (arith, is))
 watch_by_letter Make is = absurd (omega (arith, is))
 watch_by_letter (Describe shape) is = absurd (omega (arith, is))
 
--- where the words ask for one, they ask for nothing else
+-- if the words ask for one, they ask for nothing else
 pub threads_alone : (words : List (List ℕ)) (named : Word) (lists : Admitted) → HasThreads named → Spells words named lists → (word : Word) (admit : Admitted) → Spells words word admit → word ≡ named
 threads_alone words Crew lists threads crew word admit spells = crew_by_letter word (sym (spelled_letter words word admit spells) ∙ spelled_letter words Crew lists crew)
 threads_alone words Watch lists threads watch word admit spells = watch_by_letter word (sym (spelled_letter words word admit spells) ∙ spelled_letter words Watch lists watch)
@@ -269,7 +269,7 @@ threads_alone words (Describe shape) lists threads named word admit spells = abs
 abbrev pub Told : Type 0
 Told = Telling × Admitted
 
--- this is told of such a session under these lists, so all that is asked for is that one
+-- this is written of such a session under these lists, so all that is asked for is that one
 module _ (words : List Buffer) (named : Word) (threads : HasThreads named) (telling : Telling) (found : Option Told) (lists : Admitted) (is : ◌≡◌ {A = Option Told} found (Some (telling, lists)))
     (told : (admit : Admitted) → (◌≡◌ {A = Option Told} found (Some (telling, admit))) ↔ Asks words named admit) where
   pub threads_asked : Asks words named lists
@@ -286,7 +286,7 @@ module _ (words : List Buffer) (named : Word) (threads : HasThreads named) (tell
       let also : Asks words named admit = subst (λ (w : Word). Asks words w admit) same asks in
       subst (λ (w : Word). P w admit) (sym same) (subst (P named) (are_told admit also) holds)
 
--- nothing is told of one, so none is asked for
+-- nothing is written of one, so none is asked for
 pub no_threads : (words : List Buffer) (found : Option Told) → found ≡ None
     → ((admit : Admitted) → (◌≡◌ {A = Option Told} found (Some (Transcript, admit))) ↔ Asks words Crew admit) → ((admit : Admitted) → (◌≡◌ {A = Option Told} found (Some (Report, admit))) ↔ Asks words Watch admit)
     → (word : Word) (admit : Admitted) → Asks words word admit → ¬ HasThreads word

@@ -18,7 +18,7 @@ use Rattle.tbl_kinds.specs.declared.entry.Entry.{Entry}
 entries_push : (entries : List Entry) (e : Entry) → entries_bytes 0 (entries ++ e ∷ []) ≡ entries_bytes 0 entries ++ entry_bytes (length entries) e
 entries_push entries e = entries_bytes-snoc 0 entries e ∙ ap (λ n. entries_bytes 0 entries ++ entry_bytes n e) (omega arith)
 
--- where the sink took the spelling of one entry more
+-- if the sink took the spelling of one entry more
 pub is_written_push : (first before after : Option (List ℕ)) (entries : List Entry) (e : Entry) → IsWritten first entries before
     → after ≡ append_known before (entry_bytes (length entries) e) → IsWritten first (entries ++ e ∷ []) after
 is_written_push first before after entries e written more =
@@ -96,7 +96,7 @@ wrote_last stop first before after old new w place added at is said written =
     wrote stop first before after old new added.0 added.1
     (subst (λ (p : Entry × ℕ). MatchOption stop (after ≡ append_known before (entry_bytes p.1 p.0)) (λ standing. TellsStop standing before after (entry_bytes p.1 p.0))) (pair_is l.0 l.1) said) written
 
--- ---- where the last entry was written, what the step left is told
+-- ---- if the last entry was written, what the step left is reported
 
 pub ending_written : (ending : Option Standing) (first taken : Option (List ℕ)) (entries : List Entry) → IsEnding ending → IsWritten first entries taken
     → MatchOption ending (IsWritten first entries taken) (λ standing. TellsWritten standing first entries taken)
@@ -121,7 +121,7 @@ ending_why (Some SinkFailed) a b is still = absurd is
 ending_why (Some Memory) a b is still = absurd is
 ending_why (Some Unwritten) a b is still = absurd is
 
--- where it wasn't, why
+-- if it wasn't, why
 pub stop_why : (standing : Standing) (a b : ℕ) → TellsWhy (Some standing) a b → TellsLast (Some standing) a b
 stop_why SinkFailed a b why = why
 stop_why Unwritten a b why = why

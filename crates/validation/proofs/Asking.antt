@@ -34,7 +34,7 @@ module _ {C : Type 0} (verdict : C → List ℕ → ℤ) (asked : C → ℕ) whe
         }),
       )
 
-  -- the function that stands there later gives what it gave
+  -- the function that is there later gives what it gave
   gave : (old mid : Option (KitEntry C)) (times : ℕ) (image : List ℕ) (w : ℤ) → Stays verdict asked times old mid
       → IsSome mid × ForSome mid (λ entry. w ≡ verdict entry.check image) → IsSome old × ForSome old (λ entry. w ≡ verdict entry.check image)
   gave None None times image w stays given = absurd (cc given.0)
@@ -59,7 +59,7 @@ module _ {C : Type 0} (verdict : C → List ℕ → ℤ) (asked : C → ℕ) whe
   there_still times None new stays is = absurd (cc is)
   there_still times (Some old) new stays is = stays.0
 
-  -- whose functions stood in the kit has them still
+  -- those whose functions were in the kit have them still
   pub stands_still : (old new : List (Option (KitEntry C))) (questions : List Question) (verdicts : List (Option ℤ)) → WasAsked verdict asked old new questions verdicts
       → (number : ℕ) → IsSome (entry_at old number) → IsSome (entry_at new number)
   stands_still old new questions verdicts was number is = there_still _ (entry_at old number) (entry_at new number) (was.each number) is

@@ -21,6 +21,6 @@ module _ {C : Type 0} (check : C) where
     owned = same_owners kit number;
   }
 
-  -- none stands there
+  -- there is none
   pub handed_past : (kit : List (Option (KitEntry C))) (number : ℕ) → length kit ≤ number → Hands number check kit kit
   handed_past kit number past = record { this = rw (get_or_past kit number None past) refl; others = λ n other. refl; owned = refl }

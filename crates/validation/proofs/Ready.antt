@@ -19,7 +19,7 @@ use Rattle.validation.specs.Ready.{CanBeJudged, ArePending, HaveFunctions, HasIt
 
 -- ---- one table changes
 
--- something stands only within the list
+-- there is something only within the list
 within : {X : Type 0} (xs : List (Option X)) (k : ℕ) (x : X) → slice_index_or xs k None ≡ Some x → k < length xs
 within xs k x there = elim (cases_lt k (length xs)) [ inl is ↦ is | inr past ↦ absurd (cc (get_or_past xs k None past)) ]
 
@@ -37,7 +37,7 @@ module _ (tables : Tables) (row : ℕ) (change : Table → Table) where
       by None = refl
       by (Some t) = get_or-set_other tables.rows row r (Some (change t)) None other
 
-  -- a table of which something holds is there still
+  -- a table that something holds of is there still
   pub stays_there : (P : Table → Type 0) → ((t : Table) → table_at tables row ≡ Some t → P t → P (change t)) → (r : ℕ) → IsSome (table_at tables r) × ForSome (table_at tables r) P
       → IsSome (table_at (changed row change tables) r) × ForSome (table_at (changed row change tables) r) P
   stays_there P keeps r was = elim (cases_eq r row) [
@@ -126,7 +126,7 @@ mark_has_functions tables row false verdict kit all = all_keep tables row _ (λ 
 
 -- ---- other changes
 
--- a change of a table of which no validation of the load is pending, and which goes on to have its images and its function
+-- a change of a table that has no pending validation of its load, and that goes on to have its images and its function
 pub change_keeps : (tables : Tables) (row : ℕ) (change : Table → Table) (pending : List (ℕ × Bool)) → ((t : Table) → IsSome t.validator → IsSome (change t).validator) → ((t : Table) → 0 < t.count → 0 < (change t).count)
     → is_pending row false pending ≡ false → ArePending tables pending → ArePending (changed row change tables) pending
 change_keeps tables row change pending validator count gone all r true is =
@@ -136,7 +136,7 @@ change_keeps tables row change pending validator count gone all r false is = eli
   | inr other ↦ rw (changed_there tables row change r other) (all r false is)
 ]
 
--- where the activation of a load is requested, no validation of it is pending
+-- if the activation of a load is requested, no validation of it is pending
 pub none_pending : (tables : Tables) (row : ℕ) (t : Table) (pending : List (ℕ × Bool)) → table_at tables row ≡ Some t → t.activation ≡ true → ArePending tables pending → is_pending row false pending ≡ false
 none_pending tables row t pending there requested all = by (is_pending row false pending) refl
   where
@@ -181,7 +181,7 @@ followed (Some t) (Some u) P same all = λ v there number is.
     let it : u ≡ v = same_Some u v there in
     all t refl number (sym one ∙ ap (λ (w : Table). w.validator) it ∙ is)
 
--- they stand in the kit still
+-- they are in the kit still
 pub functions_follow : {C : Type 0} (old new : Tables) (kit : List (Option (KitEntry C))) → HaveSameFunctions old new → HaveFunctions old kit → HaveFunctions new kit
 functions_follow old new kit same all = λ row. followed (table_at old row) (table_at new row) (λ number. IsSome (entry_at kit number)) (same row) (all row)
 
@@ -195,7 +195,7 @@ there_still old new same row is = there_by (table_at old row) (table_at new row)
 
 -- ---- new tables
 
--- what stands at a place after something was put at one of them
+-- what is at a place after something was put at one of them
 at_set : {X : Type 0} (xs : List (Option X)) (n k : ℕ) (x y : X) → slice_index_or (slice_set xs n (Some x)) k None ≡ Some y → (x ≡ y) ⊎ (slice_index_or xs k None ≡ Some y)
 at_set [] n k x y there = absurd (cc there)
 at_set (z ∷ zs) zero zero x y there = inl (same_Some x y there)
@@ -207,7 +207,7 @@ at_set (z ∷ zs) (suc n) (suc k) x y there = at_set zs n k x y there
 pub all_have : (P : Table → Type 0) (tables : Tables) (row handle : ℕ) (h : Handle) (t : Table) → P t → ((r : ℕ) → ForSome (table_at tables r) P) → (r : ℕ) → ForSome (table_at (with_handle handle h (with_table row t tables)) r) P
 all_have P tables row handle h t new all r = λ u there. elim (at_set tables.rows row r t u there) [ inl here ↦ subst P here new | inr other ↦ all r u other ]
 
--- where there is no table, every table has it
+-- if there is no table, every table has it
 pub none_has : (P : Table → Type 0) (n r : ℕ) → ForSome (slice_index_or (replicate {A = Option Table} n None) r None) P
 none_has P zero r = λ t there. absurd (cc there)
 none_has P (suc n) zero = λ t there. absurd (cc there)

@@ -1,4 +1,4 @@
--- `into_loose` tells by the address whether something is owned there.
+-- `into_loose` sees by the address whether something is owned there.
 use Rattle.std.proofs.Common.{◌≡◌, ◌^◌, ◌<◌, ℕ, List, [], ◌∷◌, ◌++◌, refl, sym, ap, ◌∙◌, subst, Option, Some, None, lit<}
 use Rattle.std.specs.Option.{option_map}
 use seplogic.Ra.Ura.{Ura}

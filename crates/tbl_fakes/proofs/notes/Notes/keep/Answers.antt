@@ -1,4 +1,4 @@
--- The call stands on top of those before it.
+-- The call is on top of those before it.
 use Rattle.std.proofs.Common.{rules, ◌≡◌, ◌-◌, ◌++◌, ◌∷◌, [], ℕ, List, length, ap, ◌∙◌}
 use Rattle.tbl_outside.specs.BankCalls.{BankCall}
 use Rattle.tbl_fakes.specs.Notes.{Noting, call_of, told, with_call}
