@@ -1,4 +1,4 @@
-//! The access descriptors of tables: the layer above may rely on it that each change is one step of the list of places.
+//! The access descriptors of tables: the layer above can be sure that each change is one step of the list of places.
 #![tactic(auto)]
 
 mod handle_view;

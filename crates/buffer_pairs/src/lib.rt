@@ -1,4 +1,4 @@
-//! The images of a table: the layer above may rely on it that an image is a value, which nobody changes while another owner has it.
+//! The images of a table: the layer above can be sure that an image is a value, which nobody changes while another owner has it.
 #![tactic(auto)]
 
 mod buffers;

@@ -18,7 +18,7 @@ CallCounted faults stops old new (Ok x) = Still faults stops old new
 CallCounted faults stops old new (Err (Fault gate old_gate)) = RoseAlone faults stops old new
 CallCounted faults stops old new (Err (Stopped gate old_gate)) = RoseAlone stops faults old new
 
--- a reservation for which there was no room moved neither too
+-- nor did a reservation for which there was no room
 abbrev pub ReserveCounted : {A B : Type 0} → (B → ℕ) → (B → ℕ) → B → B → Result A ReserveFault → Type 0
 ReserveCounted faults stops old new (Ok x) = Still faults stops old new
 ReserveCounted faults stops old new (Err NoRoom) = Still faults stops old new

@@ -1,5 +1,5 @@
-//! The Critical Data Store. The layer above may rely on this: after a reset at any moment, also inside a write, each block comes back as
-//! its last completed image or one whose copy broke off since; and each call is the definition's step on the blocks.
+//! The Critical Data Store: the layer above can be sure that after a reset at any moment, also inside a write, each block comes back as its
+//! last completed image or one whose copy broke off since, and that each call is the definition's step on the blocks.
 #![tactic(auto)]
 
 mod block_list;

@@ -1,5 +1,5 @@
-//! Dumps of tables and of the registry: the layer above may rely on it that a file has exactly the image that it is of, or
-//! exactly the registered tables, and that a pending dump uses its buffer until it is over.
+//! Dumps of tables and of the registry: the layer above can be sure that a file has exactly the image that it is of, or exactly the
+//! registered tables, and that a pending dump uses its buffer until it is over.
 #![tactic(auto)]
 
 mod editing;

@@ -1,4 +1,5 @@
-//! The uplinked files, by name: the layer above may rely on it that they are a list in order of first uplink, which each call changes by one step.
+//! The uplinked files, by name: the layer above can be sure that they are a list in order of first uplink, which each call changes by one
+//! step.
 #![tactic(auto)]
 
 mod contents;

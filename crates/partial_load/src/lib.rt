@@ -1,5 +1,5 @@
-//! Loads into tables: the layer above may rely on it that a load changes exactly the stated bytes of an image, and is refused
-//! for the first reason in the order of the table services.
+//! Loads into tables: the layer above can be sure that a load changes exactly the stated bytes of an image, and is refused for the first
+//! reason in the order of the table services.
 #![tactic(auto)]
 
 mod aborting;

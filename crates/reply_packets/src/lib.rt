@@ -1,4 +1,4 @@
-//! The packets of a reply and the running numbers in them. The layer above may rely on this: both are those that the model has for the
+//! The packets of a reply and the running numbers in them: the layer above can be sure that both are those that the model has for the
 //! request and its effect.
 #![tactic(auto)]
 

@@ -1,4 +1,4 @@
-//! What a command was read as, and what a request did, as values. The layer above may rely on this: an effect represents the model's in
+//! What a command was read as, and what a request did, as values: the layer above can be sure that an effect represents the model's in
 //! every field that telemetry reports, and also says what came from the outside.
 #![tactic(auto)]
 

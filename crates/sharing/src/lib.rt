@@ -1,4 +1,4 @@
-//! Applications and the tables that they register: the layer above may rely on it that each call is one step of what runs and is registered.
+//! Applications and the tables that they register: the layer above can be sure that each call is one step of what runs and is registered.
 #![tactic(auto)]
 
 mod apps;

@@ -1,5 +1,5 @@
-//! What requests do to the Critical Data Store: the layer above may rely on it that each call gives the model's effect for
-//! any note that a boot after it may complete, and that a reset in it leaves what its calls had made of the blocks so far.
+//! What requests do to the Critical Data Store: the layer above can be sure that each call gives the model's effect for any note that a
+//! boot after it may complete, and that a reset in it leaves what its calls had made of the blocks so far.
 #![tactic(auto)]
 
 mod blocks;

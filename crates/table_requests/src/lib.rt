@@ -1,5 +1,5 @@
-//! What requests do to tables: the layer above may rely on it that each call gives the model's effect in every state that
-//! has the parts that it is given, and that a request that runs out of memory changes nothing.
+//! What requests do to tables: the layer above can be sure that each call gives the model's effect in every state that has the parts that
+//! it is given, and that a request that runs out of memory changes nothing.
 #![tactic(auto)]
 
 mod activations;

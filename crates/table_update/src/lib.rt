@@ -1,5 +1,5 @@
-//! Validations and updates of tables. The layer above may rely on this: a verdict is given on exactly the image that is named, only a
-//! verdict marks a load as validated, and the last image of a table changes only by an update that its owner makes.
+//! Validations and updates of tables: the layer above can be sure that a verdict is given on exactly the image that is named, that only a
+//! verdict marks a load as validated, and that the last image of a table changes only by an update that its owner makes.
 #![tactic(auto)]
 
 mod judging;

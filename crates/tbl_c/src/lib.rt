@@ -1,5 +1,5 @@
-//! The service for C. Whoever links it may rely on this: each call plays one record, what it reports is the entry of one legal history that
-//! begins as the handle was opened, and nothing of a history is kept.
+//! The service for C: whoever links it can be sure that each call plays one record, that what it reports is the entry of one legal history
+//! that begins as the handle was opened, and that nothing of a history is kept.
 #![tactic(auto)]
 
 mod handle;

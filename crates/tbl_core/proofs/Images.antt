@@ -1,4 +1,4 @@
--- The bound on the images of a table, taken again.
+-- The bound on the images of a table, computed again.
 use Rattle.std.proofs.Common.{◌≤◌, ℕ, suc, zero, List, [], ◌∷◌, Option, Some, None, arith}
 use Rattle.std.specs.Prelude.{max, fold, slice_index_or}
 use Rattle.std.specs.Option.{ForSome}

@@ -16,7 +16,7 @@ use Rattle.tbl_outside.specs.declared.bank.Bank.{Ghosts}
 use Rattle.validation.specs.Kits.{Hands}
 use Rattle.tbl_core.specs.Service.{PartsView, EngineView, IsStateOf, Stands, IsAfter, IsLimit}
 
--- requests that have the function of a table asked by its owner
+-- requests with which the owner of a table has its function asked
 abbrev pub may_ask : Request → Bool
 may_ask (ask.LoadImage handle image) = true
 may_ask (ask.LoadFile handle name) = true

@@ -16,7 +16,7 @@ pub record Follows (called note : BankNote) : Type 0 where
   pub is : note ≡ with_boot ended stopped found called
   pub same : called.outcome ≢ Stopped → note ≡ called
 
--- what a boot alone reported, if there was one
+-- what a boot by itself reported, if there was one
 abbrev pub boot_only : Outcome → BankNote → BankNote
 boot_only Stopped note = with_boot note.ended note.stopped [] untouched
 boot_only Untouched note = untouched

@@ -17,7 +17,7 @@ use Rattle.tbl_kinds.specs.declared.note.BankNote.{BankNote}
 use Rattle.tbl_kinds.specs.declared.request.Request.{Request}
 use Rattle.tbl_kinds.specs.declared.request.Request.TheVariants as ask
 
--- no other call is only the owner's
+-- no other call is reserved for the owner
 abbrev pub owned_effect : State → ℕ → Table → Request → Given → Option Effect
 owned_effect s row t (ask.LoadImage handle image) given = Some (load_image_of s image.list given row t)
 owned_effect s row t (ask.LoadFile handle name) given = Some (by_answer s (closed_refusal t) (if_file s name (load_file_of s name given row t)))

@@ -211,7 +211,7 @@ pub record IsReady {B C : Type 0} (v : ValidatorGhosts C) (engine : EngineView B
   pub numbers : AreCounts engine.counts
   pub places : length engine.gets ≡ handle_limit
 
--- the engine with the bound on images taken again
+-- the engine with the bound on images computed again
 abbrev pub recounted : {B C : Type 0} → EngineView B C → EngineView B C
 recounted engine = record engine { images = most_images engine.state.tables }
 

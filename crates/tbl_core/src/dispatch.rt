@@ -305,9 +305,9 @@ impl<B: Bank, C: Validator> Parts<B, C> {
         }
     }
 
-    /// Does what the owner of the table of a row asks for it, which can make an image active. If one did and the table is critical, the
-    /// image is copied into its block. The memory for the copy is taken first, as nothing can be taken back then; the copy comes last, so
-    /// that no image is kept that didn't go active.
+    /// Does what the owner of the table of a row asks for it, which can make an image active. If an image went active and the table is
+    /// critical, it is copied into its block. The memory for the copy is taken first, as nothing can be taken back then; the copy comes
+    /// last, so that no image is kept that didn't go active.
     fn activate(
         &mut self,
         row: u8,

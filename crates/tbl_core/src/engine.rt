@@ -128,7 +128,7 @@ impl<B: Bank, C: Validator> Engine<B, C> {
     }
 
     /// The limit that keeps it from playing this request, if one does: 2^61 - 1 requests were played, or a table may have had 4,294,967,293
-    /// images since it was registered, as they were counted (`recount` counts them again). A reset may come even after so many images,
+    /// images since it was registered, by the present count (`recount` counts them again). A reset may come even after so many images,
     /// since it leaves no tables.
     pub fn limit_met(&self, request: &Request) -> Option<u64>
         ensures { MatchOption result (HasRoom self.now request.now) (IsLimit self.now) }

@@ -163,7 +163,7 @@ impl<B: Bank, C: Validator> Works<B, C> {
         self.parts.tables.lend(handle, self.place_of(handle))
     }
 
-    /// Takes the bound on the images of a table again: the most that one has had.
+    /// Computes the bound on the images of a table again: the most that one has had.
     pub(crate) fn recount(&mut self)
         requires ready { IsReady C.Validator (works_view self.old) }
         ensures images { works_view self.new ≡ recounted (works_view self.old) }

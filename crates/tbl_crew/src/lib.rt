@@ -1,4 +1,4 @@
-//! A session with a thread for each actor. The layer above may rely on this: what the threads play is one legal history, in which each
+//! A session with a thread for each actor: the layer above can be sure that what the threads play is one legal history, in which each
 //! actor's requests are its script, in order.
 #![tactic(auto)]
 

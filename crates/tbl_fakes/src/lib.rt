@@ -1,5 +1,5 @@
-//! The outside in memory, for tests: a layer above may rely on each object keeping its whole trait, and on knowing
-//! beforehand which of its calls fail.
+//! The outside in memory, for tests: a layer above can be sure that each object keeps its whole trait, and knows beforehand which of its
+//! calls fail.
 #![tactic(auto)]
 
 mod calm;

@@ -1,5 +1,4 @@
-//! A service at its start, and what it keeps to from its opening on: whoever plays requests may rely on the whole of it after any
-//! number of them.
+//! A service at its start, and what it keeps to from its opening on: whoever plays requests can rely on all of it after any number of them.
 #![tactic(auto)]
 
 mod opening;

@@ -1,5 +1,5 @@
-//! A service that a program's own threads call. The layer above may rely on this: all calls are in one legal history, and each seat's calls
-//! are all that this history has of its actor, none lost, none made up and none twice.
+//! A service that a program's own threads call: the layer above can be sure that all calls are in one legal history, and that each seat's
+//! calls are all that this history has of its actor, none lost, none made up and none twice.
 #![tactic(auto)]
 
 mod board;

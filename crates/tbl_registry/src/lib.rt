@@ -1,4 +1,4 @@
-//! The table registry: the layer above may rely on it that each call is one step of the registered tables and their handles.
+//! The table registry: the layer above can be sure that each call is one step of the registered tables and their handles.
 #![tactic(auto)]
 
 mod pin;

@@ -28,7 +28,7 @@ pub(crate) struct Image {
 pub(crate) enum Change {
     Registered(Registration),
     Copied(Image),
-    /// The block is gone, or was made again: no image of before may come back.
+    /// The block is gone, or was newly made: no image of before may come back.
     Emptied,
 }
 

@@ -47,7 +47,7 @@ impl<B: Bank> Reset<B, B> for BetweenCalls {
     }
 }
 
-/// Does what `run` does with these words, and after a reset what it does with others over the bank that the reset left: returns the status
+/// Does what `run` does with these words, and after a reset what it does with others over the bank that the reset left. Returns the status
 /// of the first, and the status and the bank of the second. Each critical table that the second one registers comes back from the history
 /// that the first one served, whatever its order and its threads were, as the law of recovery says.
 pub fn run_again<

@@ -1,4 +1,4 @@
-//! The four shared working buffers of the tables: the layer above may rely on it that each call changes one buffer and that the others stay.
+//! The four shared working buffers of the tables: the layer above can be sure that each call changes one buffer and that the others stay.
 #![tactic(auto)]
 
 mod buffer;

@@ -258,7 +258,7 @@ impl Tables {
     }
 
     /// The image that the handle pins, if the stated bytes are the whole of it and more than a value itself can hold: a read of them can
-    /// have them without a copy. None else.
+    /// have them without a copy. Otherwise None.
     pub fn read_whole(&self, handle: u16, offset: u32, len: u32) -> Option<&Image>
         ensures { IfSome result (λ image. read handle offset len self.now ≡ Ok image.now) }
     {
