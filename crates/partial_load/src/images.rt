@@ -32,7 +32,7 @@ pub struct Loaded {
     pub verdict: Option<i32>,
 }
 
-/// What a load is answered that nothing refuses but the verdict on its image.
+/// The answer to a load that only the verdict on its image can refuse.
 fn verdict_answer(verdict: Option<i32>) -> Answer
     ensures { result ≡ verdict_answer verdict }
 {

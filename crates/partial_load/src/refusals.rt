@@ -100,7 +100,7 @@ pub(crate) fn image_refusal(tables: &Tables, row: u8, len: usize) -> Option<Answ
     busy_refusal(tables, row, table.flags.contains(Options::DOUBLE))
 }
 
-/// Why so many bytes from this offset on are no part of an image of a table of this size that had so many images.
+/// Why so many bytes from this offset on aren't part of an image of a table of this size that had so many images.
 fn part_refusal(size: u32, count: u32, offset: u32, len: u32) -> Option<Answer>
     ensures { (t : Table) → t.size ≡ size → t.count ≡ count → result ≡ part_refusal t offset len }
 {

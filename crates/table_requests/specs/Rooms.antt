@@ -6,7 +6,7 @@ use Rattle.tbl_model.specs.Pending.{is_pending}
 use Rattle.tbl_model.specs.declared.telemetry.Shown.TheVariants.{Nothing}
 use Rattle.request_effects.specs.Reports.{Reported}
 
--- nothing is sent but the events
+-- only the events are sent
 pub record IsAlone (report : Reported) : Type 0 where
   pub shown : report.shown ≡ Nothing
   pub notice : report.notice ≡ None

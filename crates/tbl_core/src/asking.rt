@@ -105,8 +105,8 @@ impl<B: Bank, C: Validator> Engine<B, C> {
         self.limit_met(request).is_none()
     }
 
-    /// Puts another function in the place of the one of this number, if there is one. It is the same application's, so the engine
-    /// represents whatever it represented before.
+    /// Replaces the function of this number, if there is one, by another. It is the same application's, so the engine represents whatever
+    /// it represented before.
     pub fn hand(&mut self, number: u8, check: C)
         requires fresh { C.asked check < 2 ^ 62 }
         ensures hands { HandsIn number check self.old self.new }

@@ -38,7 +38,7 @@ impl Model for Log {
     ghost invariant = { λ l. All IsSmall l.entries.items };
 }
 
-/// Adds a request that isn't answered yet, and has it played in the place of its entry. If memory runs out, it is taken back.
+/// Adds a request that isn't answered yet, and has its entry played in place. If memory runs out, it is taken back.
 #[inline(always)]
 fn push_played<B: Bank, C: Validator>(
     entries: &mut Vec<Entry>,
@@ -123,7 +123,7 @@ impl Log {
         Ok(())
     }
 
-    /// Enters a request that isn't answered yet, and has it played in the place of its entry. If memory runs out, it is taken back.
+    /// Enters a request that isn't answered yet, and has its entry played in place. If memory runs out, it is taken back.
     #[inline(always)]
     fn enter<B: Bank, C: Validator>(
         &mut self,

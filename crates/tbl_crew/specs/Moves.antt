@@ -25,8 +25,8 @@ use Rattle.tbl_crew.specs.declared.held.Turn.TheVariants.{Played, Pinned, PinMem
 abbrev pub Grows : List Entry → ℕ → List Entry → Type 0
 Grows old actor new = (new ≡ old) ⊎ ((e : Entry) × (new ≡ old ++ e ∷ []) × (e.actor ≡ actor_of actor))
 
--- it leads on, leaves what the others have still to ask and what was lent, adds no entry but one of the actor, forgets no fault,
--- and changes nothing after one
+-- it leads on, leaves what the others have still to ask and what was lent, adds no entry except one of the actor, forgets no fault, and
+-- changes nothing after one
 pub record Moves {B C : Type 0} (g : Ghosts B) (verdict : C → List ℕ → ℤ) (old : CrewView B C) (actor : ℕ) (new : CrewView B C) : Type 0 where
   pub leads : LeadsOn g verdict old new
   pub others : (other : ℕ) → other ≢ actor → script_of new.left other ≡ script_of old.left other

@@ -76,6 +76,6 @@ Lends core Done = ⊥
 
 -- ---- a worker's pins
 
--- one is kept last, or in the place of another, or not at all
+-- one is kept last, or instead of another, or not at all
 abbrev pub Keeps : List Pin → List Pin → Pin → Type 0
 Keeps old new pin = (new ≡ old) ⊎ ((new ≡ old ++ pin ∷ []) ⊎ ((n : ℕ) × (new ≡ slice_set old n pin)))

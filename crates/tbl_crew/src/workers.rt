@@ -131,7 +131,7 @@ fn take_ahead(alloc: Global, pins: &[Pin], read: ReadPlan) -> Result<Option<Take
     }
 }
 
-/// Keeps the pin of a handle in the place of its earlier one. If memory runs out it isn't kept.
+/// Keeps the pin of a handle instead of its earlier one. If memory runs out it isn't kept.
 pub(crate) fn keep(pins: &mut Vec<Pin>, pin: Pin)
     ensures { Keeps pins.old.items pins.new.items pin }
 {

@@ -68,7 +68,7 @@ pub trait ServiceCore<B: Bank, C: Validator>: Drop {
     fn count(&self) -> u64
         ensures { result ≡ length (core self.now).entries };
 
-    /// Why there is no room for this request: so many were played, or so many images has a table had. None if there is room.
+    /// Why there is no room for this request: so many were played, or a table has had so many images. None if there is room.
     fn refusal(&mut self, request: &Request) -> Option<u64>
         ensures same { core self.new ≡ core self.old }
         ensures room { MatchOption result (may_play self.new request.now × (length (core self.new).entries < bound.limit)) (bound.full (length (core self.new).entries) (core self.new).state.tables) };

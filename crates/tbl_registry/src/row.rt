@@ -467,7 +467,7 @@ impl Row {
         }
     }
 
-    /// Opens a load with this image, or puts it in the place of the open load's.
+    /// Opens a load with this image, or replaces the image of the open load by it.
     pub(crate) fn set_load(&mut self, image: Image)
         requires size { length image ≡ self.old.size }
         requires loadable { is_dump_only self.old ≡ false }

@@ -108,8 +108,8 @@ impl Model for Tables {
 impl Tables {
     ghost use Rattle.tbl_registry.specs.Views.{row_view, dump_name, filled_image};
 
-    /// No table and no handle. All memory that the calls below need is taken here, but that of images, so that none of them
-    /// can run out of it when a table has half changed.
+    /// No table and no handle. All memory that the calls below need, except that of images, is taken here, so that none of them can run out
+    /// of it when a table has half changed.
     pub fn make(alloc: Global) -> Result<Tables, Memory>
         ensures { IfOk result (λ t. t ≡ no_tables) }
     {

@@ -62,7 +62,7 @@ It ends with one of these statuses:
 struct Mode {
     /// Inside long writes each number of bytes is tried that this one divides.
     every: u32,
-    /// Whether one of two banks fails, in the place of resets.
+    /// Whether one of two banks fails, instead of resets.
     is_mirrored: bool,
 }
 

@@ -12,7 +12,7 @@ IsBeginning played rest = (rest ≡ []) ⊎ (IsShort rest × (played < record_li
 abbrev pub piece_limit : ℕ
 piece_limit = 4096
 
--- all but the beginning of one record and one piece of what was read is records
+-- what was read is records, except for the beginning of one record and one piece
 abbrev pub rest_limit : ℕ
 rest_limit = 36932
 

@@ -53,7 +53,7 @@ fn drop_of<C: Validator>(entry: &mut Option<KitEntry<C>>, app: u8)
     }
 }
 
-/// Puts another function in the place of one, if there is one.
+/// Replaces the function of an entry, if there is one, by another.
 fn put_check<C: Validator>(entry: &mut Option<KitEntry<C>>, check: C)
     ensures { entry.new ≡ option_map (with_check check) entry.old }
 {
@@ -62,7 +62,7 @@ fn put_check<C: Validator>(entry: &mut Option<KitEntry<C>>, check: C)
     }
 }
 
-/// Puts another function at a place, if there is one.
+/// Replaces the function at a place, if there is one, by another.
 #[tactic(auto, using(crate::proofs::Handing::handed_past))]
 fn hand_in<C: Validator>(entries: &mut [Option<KitEntry<C>>], at: usize, check: C)
     ensures { Hands at check entries.old entries.new }
@@ -122,7 +122,7 @@ impl<C: Validator> Kit<C> {
         Some(self.perform(number, image))
     }
 
-    /// Puts another function in the place of the one of this number, if there is one. It is the same application's.
+    /// Replaces the function of this number, if there is one, by another. It is the same application's.
     pub fn hand(&mut self, number: u8, check: C)
         ensures { Hands number check self.old self.new }
     {

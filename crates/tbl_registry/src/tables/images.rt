@@ -43,7 +43,7 @@ fn take_image(table: &mut Row, handles: &mut Handles, row: u8, image: Image)
     move_pins(table, handles, row);
 }
 
-/// Opens a load with this image, or puts it in the place of the open load's. A load that opens takes a buffer.
+/// Opens a load with this image, or replaces the image of the open load by it. A load that opens takes a buffer.
 fn take_load(table: &mut Row, working: &mut Working, row: u8, image: Image)
     requires size { length image ≡ table.old.size }
     requires out { HasItsBuffer working.old row table.old }
@@ -107,8 +107,7 @@ impl Tables {
         take_image(table, &mut self.handles, row, image);
     }
 
-    /// Opens a load of the table of a row with this image, or puts it in the place of the open load's. It isn't validated
-    /// any more.
+    /// Opens a load of the table of a row with this image, or replaces the image of the open load by it. It isn't validated any more.
     pub fn set_load(&mut self, row: u8, image: Image)
         requires table { IsSome (table_at self.old row) }
         requires size { ForSome (table_at self.old row) (λ t. length image ≡ t.size) }
