@@ -163,6 +163,16 @@ impl Handles {
         })
     }
 
+    /// The same handles in memory of their own. An Err means out of memory.
+    pub fn duplicate(&self, alloc: Global) -> Result<Handles, Memory>
+        ensures { IfOk result (λ copy. copy ≡ self.now) }
+    {
+        Ok(Handles {
+            places: Vec::from_slice(alloc, &self.places)?,
+            rows: Vec::from_slice(alloc, &self.rows)?,
+        })
+    }
+
     /// Gives an application a handle on the table of a row: the least free number. It pins nothing and knows of no image.
     #[tactic(auto, using(tbl_kinds::proofs::FreeLaws::none_at))]
     pub fn add(&mut self, app: u8, row: u8) -> Option<u16>
