@@ -44,6 +44,16 @@ impl Buffer {
         })
     }
 
+    /// The same buffer in memory of its own.
+    pub(crate) fn duplicate(&self, alloc: Global) -> Result<Buffer, AllocError>
+        ensures { IfOk result (λ copy. copy ≡ self.now) }
+    {
+        Ok(Buffer {
+            row: self.row,
+            bytes: Vec::from_slice(alloc, &self.bytes)?,
+        })
+    }
+
     /// The row that has it.
     pub(crate) fn row(&self) -> Option<u8>
         ensures { result ≡ self.now.row }

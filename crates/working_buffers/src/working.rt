@@ -47,6 +47,17 @@ fn free_all(buffers: &mut [Buffer])
     }
 }
 
+/// The same buffers in memory of their own.
+fn copy_all(alloc: Global, buffers: &[Buffer]) -> Result<Vec<Buffer>, Memory>
+    ensures { IfOk result (λ copies. copies.items ≡ buffers.now) }
+{
+    let mut copies = Vec::with_capacity(alloc, buffers.len())?;
+    for buffer in buffers {
+        copies.push(buffer.duplicate(alloc)?)?;
+    }
+    Ok(copies)
+}
+
 impl Working {
     ghost use Rattle.std.specs.Borrow.{sem};
     ghost use Rattle.working_buffers.specs.Lending.{LendsPlace};
@@ -61,6 +72,15 @@ impl Working {
         let fourth = Buffer::make(alloc)?;
         Ok(Working {
             buffers: vec![in alloc; first, second, third, fourth]?,
+        })
+    }
+
+    /// The same four buffers in memory of their own. An Err means out of memory.
+    pub fn duplicate(&self, alloc: Global) -> Result<Working, Memory>
+        ensures { IfOk result (λ copy. copy ≡ self.now) }
+    {
+        Ok(Working {
+            buffers: copy_all(alloc, &self.buffers)?,
         })
     }
 
