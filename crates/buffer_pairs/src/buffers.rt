@@ -4,6 +4,9 @@ ghost use Rattle.buffer_pairs.specs.Images.{at_first, with_last, without_before,
 
 use crate::image::{Image, SPARE_LIMIT};
 use std::marker::Model;
+use tbl_kinds::Memory;
+
+mod copying;
 
 /// A table's images: the last one, and in a table with two buffers the one before it (`CFE_TBL_OPT_SNGL_BUFFER`,
 /// `CFE_TBL_OPT_DBL_BUFFER`).
