@@ -43,6 +43,15 @@ impl Pending {
         }
     }
 
+    /// The same validations, in the same order. It takes no memory.
+    pub fn duplicate(&self) -> Pending
+        ensures { result ≡ self.now }
+    {
+        let mut pairs = ArrayVec::new();
+        let _ = pairs.try_extend_from_slice(self.pairs.as_slice());
+        Pending { pairs }
+    }
+
     /// Whether the validation of this image of this row's table is pending.
     pub fn has(&self, row: u8, active: bool) -> bool
         ensures { result ≡ is_pending row active self.now }
