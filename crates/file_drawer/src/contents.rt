@@ -61,6 +61,16 @@ impl Contents {
         })
     }
 
+    /// The same bytes once more: copied, or in memory that others have too.
+    pub(crate) fn duplicate(&self) -> Result<Contents, Memory>
+        ensures { IfOk result (λ copy. copy ≡ self.now) }
+    {
+        Ok(Contents {
+            bytes: self.bytes.copy()?,
+            begin: self.begin,
+        })
+    }
+
     /// The bytes.
     pub fn bytes(&self) -> &[u8]
         ensures { result.now ≡ self.now }

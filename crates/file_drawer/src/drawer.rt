@@ -9,6 +9,8 @@ use std::marker::Model;
 use std::mem;
 use tbl_kinds::{Memory, Name64};
 
+mod copying;
+
 /// How many files there can be.
 const FILES: usize = 64;
 
