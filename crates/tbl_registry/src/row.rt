@@ -15,6 +15,7 @@ use std::marker::Model;
 use tbl_kinds::{Memory, Name40, Name64, Options, Status};
 use tbl_model::Notice;
 
+mod copying;
 mod info;
 
 pub(crate) use self::info::RECORD_LENGTH;

@@ -26,6 +26,7 @@ use tbl_kinds::{Bytes, Memory, Name40, Name64};
 use working_buffers::Working;
 
 mod buffers;
+mod copying;
 mod dumps;
 mod ends;
 mod handles;
