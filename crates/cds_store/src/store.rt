@@ -34,6 +34,8 @@ use std::marker::Model;
 use tbl_kinds::{Block, BlockKind, Memory, Name40, ResetKind, Slots};
 use tbl_outside::{Back, Bank};
 
+mod copying;
+
 /// The Critical Data Store in a bank: what is known of the 128 slots of its directory, and the bank. It takes all its
 /// memory when it is made.
 #[derive(Drop)]
