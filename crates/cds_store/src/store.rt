@@ -31,6 +31,7 @@ use crate::slot::Slot;
 use cds_layout::{BLOCKS_BEGIN, Directory, MOST_PLACE, RestoreFault, SLOTS};
 use std::alloc::{AllocError, Global};
 use std::marker::Model;
+use std::mem;
 use tbl_kinds::{Block, BlockKind, Memory, Name40, ResetKind, Slots};
 use tbl_outside::{Back, Bank};
 
@@ -138,9 +139,20 @@ impl<B: Bank> Store<B> {
 
     /// The bank.
     pub fn bank(&self) -> &B
-        ensures { result.now ≡ self.now.bank }
+        ensures bank { result.now ≡ self.now.bank }
+        ensures room { bank_size ≤ B.size result.now }
     {
         &self.bank
+    }
+
+    /// Puts another bank in the place of the one that it has, and gives that back. The new one holds the same bytes.
+    pub fn replace_bank(&mut self, bank: B) -> B
+        requires room { bank_size ≤ B.size bank }
+        requires same { B.tells → B.now bank ≡ B.now self.old.bank }
+        ensures old { result ≡ self.old.bank }
+        ensures new { self.new ≡ record self.old { bank = bank } }
+    {
+        mem::replace(&mut self.bank, bank)
     }
 
     /// The bank, which has room for a further store.

@@ -4,6 +4,8 @@ ghost use Rattle.validation.specs.Kits.{entry_at, is_of, dropped, Hands, with_ch
 ghost use Rattle.validation.specs.Asked.{WasAsked, asks};
 ghost use Rattle.tbl_outside.specs.declared.validator.KitEntry.{KitEntry as Entry};
 
+mod renewal;
+
 use std::alloc::Global;
 use std::marker::Model;
 use tbl_kinds::Memory;
