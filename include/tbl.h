@@ -18,6 +18,7 @@
 #ifndef TBL_H
 #define TBL_H
 
+#include <stdbool.h>
 #include <stddef.h>
 #include <stdint.h>
 
@@ -68,6 +69,24 @@ struct tbl_told {
     uint32_t number;
 };
 
+/* A write of preserved memory that is to break off: its number, counted from 1; after how many of its bytes, and the whole write if it has
+ * fewer; and whether a reset of the processor comes then (true) or the memory fails (false). */
+struct tbl_write_break {
+    uint32_t write;
+    uint32_t after;
+    bool stop;
+};
+
+/* What became of writes: how many were made, those included that broke off; how many failed, and how many a reset stopped; where the last of
+ * those begins that broke off, and how many bytes it has (0 and 0 if none did). */
+struct tbl_write_counts {
+    uint64_t made;
+    uint64_t faults;
+    uint64_t stops;
+    uint32_t at;
+    uint32_t length;
+};
+
 /* Opens a handle over a copy of these bytes of preserved memory, of which there are TBL_BANK_SIZE, and boots as after a reset of the
  * processor. A handle that is open is closed first. TBL_OK, TBL_NO_MEMORY, TBL_BOOT_FAULT, TBL_BOOT_STOPPED, TBL_BAD_BANK. */
 uint8_t tbl_open(struct tbl_handle *handle, const uint8_t *bank, size_t size);
@@ -80,6 +99,19 @@ uint8_t tbl_step(struct tbl_handle *handle, const uint8_t *record, size_t length
 
 /* Copies preserved memory as it is now, from a place on, as much of it as there is room for. TBL_OK, TBL_CLOSED. */
 uint8_t tbl_bank(struct tbl_handle *handle, size_t from, uint8_t *bytes, size_t room);
+
+/* Has these writes of preserved memory break off, and no others. They are counted from the next one on. A reset that comes so into a request
+ * is told by its entry, as a transcript has it; the service boots, and goes on. TBL_OK, TBL_NO_MEMORY (what was to break off, still is),
+ * TBL_CLOSED. */
+uint8_t tbl_break(struct tbl_handle *handle, const struct tbl_write_break *breaks, size_t count);
+
+/* Tells what became of the writes of preserved memory since tbl_open or tbl_break. TBL_OK, TBL_CLOSED. */
+uint8_t tbl_writes(struct tbl_handle *handle, struct tbl_write_counts *counts);
+
+/* Has a handle hold a copy of what another holds, with the same answer to whatever comes: tbl_copy(handle, snapshot) takes a snapshot, and
+ * tbl_copy(snapshot, handle) goes back to it. What tbl_break said isn't copied. TBL_OK; TBL_NO_MEMORY, TBL_CLOSED (of the first), and then
+ * nothing is changed. */
+uint8_t tbl_copy(struct tbl_handle *from, struct tbl_handle *to);
 
 /* Closes a handle, and frees all that it holds. */
 void tbl_close(struct tbl_handle *handle);

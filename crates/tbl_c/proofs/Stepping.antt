@@ -13,13 +13,14 @@ use Rattle.tbl_outside.specs.declared.bank.Bank.{Ghosts}
 use Rattle.tbl_outside.specs.declared.validator.KitEntry.{KitEntry}
 use Rattle.validation.specs.Kits.{entry_at, with_check, Hands}
 use Rattle.validation.specs.Asked.{GivesEach}
+use Rattle.tbl_fakes.specs.Breaking.{Breaking}
 use Rattle.handed_kit.specs.Answering.{Spoken, answer_of, one_verdict, two_verdicts}
 use Rattle.tbl_core.specs.Asking.{Asks, StandsOn}
 use Rattle.tbl_c.specs.Serving.{Serving, second_of, Said, WillSay}
 
 -- ---- what the service represents
 
-module _ (g : Ghosts (List ℕ)) where
+module _ (g : Ghosts Breaking) where
   pub on_still : (s : Serving) → StandsOn g s s
   on_still s = record { stands = λ opening past was. was; after = λ past was. was; bank = refl; ended = refl; played = refl }
 

@@ -17,6 +17,7 @@ use Rattle.tbl_outside.specs.declared.bank.Bank.{Ghosts}
 use Rattle.tbl_outside.specs.declared.validator.KitEntry.{KitEntry}
 use Rattle.tbl_outside.specs.declared.validator.Validator.{Ghosts as ValidatorGhosts}
 use Rattle.validation.specs.Kits.{entry_at, owners}
+use Rattle.tbl_fakes.specs.Breaking.{Breaking}
 use Rattle.handed_kit.specs.Answering.{Spoken, answer_of}
 use Rattle.handed_kit.specs.Kit.{mute_below}
 use Rattle.tbl_core.specs.Asking.{Asks, StandsOn, MeetsLimit, may_ask}
@@ -26,9 +27,9 @@ use Rattle.tbl_c.specs.Told.{over_front}
 use Rattle.tbl_core.specs.declared.service.StepFault.{StepFault}
 use Rattle.tbl_core.specs.declared.service.StepFault.TheVariants.{BootFault, BootStopped}
 
--- the engine, over preserved memory as a list of bytes
+-- the engine, over preserved memory whose writes may be to break off
 abbrev pub Serving : Type 0
-Serving = EngineView (List ℕ) Spoken
+Serving = EngineView Breaking Spoken
 
 -- ---- verdicts
 
@@ -82,7 +83,7 @@ abbrev pub TellsEntry : Result Unit StepFault → List ℕ → Outcome → Type 
 TellsEntry end bytes o = (IsPlayed o.status × (end ≡ end_of o.status) × IsTold bytes o) ⊎ (o.status ≡ 20)
 
 -- a request was played, and C gets this of its entry
-pub record Played (g : Ghosts (List ℕ)) (v : ValidatorGhosts Spoken) (old new : Serving) (asked : Actor × Request) (o : Outcome) : Type 0 where
+pub record Played (g : Ghosts Breaking) (v : ValidatorGhosts Spoken) (old new : Serving) (asked : Actor × Request) (o : Outcome) : Type 0 where
   pub entry : Entry
   pub end : Result Unit StepFault
   pub steps : Steps g v old new asked entry end
@@ -90,7 +91,7 @@ pub record Played (g : Ghosts (List ℕ)) (v : ValidatorGhosts Spoken) (old new 
 
 -- The questions of the request were answered with the verdicts that were handed in, and it was played. Before that only the kit was
 -- changed: its functions answer so.
-pub record Plays (g : Ghosts (List ℕ)) (v : ValidatorGhosts Spoken) (old new : Serving) (pair : Pair) (verdicts : List ℤ) (o : Outcome) : Type 0 where
+pub record Plays (g : Ghosts Breaking) (v : ValidatorGhosts Spoken) (old new : Serving) (pair : Pair) (verdicts : List ℤ) (o : Outcome) : Type 0 where
   pub questions : List Question
   pub asks : Asks g old pair.actor pair.request questions
   pub enough : length questions ≤ length verdicts
@@ -100,7 +101,7 @@ pub record Plays (g : Ghosts (List ℕ)) (v : ValidatorGhosts Spoken) (old new :
   pub said : may_ask pair.request ≡ true → g.tells → (opening : State) (past : List Entry) → Stands g opening past old → Said questions verdicts played.entry.given.verdicts
 
 -- a verdict is missing for this question of the request, and C gets the question
-pub record Lacks (g : Ghosts (List ℕ)) (old new : Serving) (pair : Pair) (verdicts : List ℤ) (o : Outcome) : Type 0 where
+pub record Lacks (g : Ghosts Breaking) (old new : Serving) (pair : Pair) (verdicts : List ℤ) (o : Outcome) : Type 0 where
   pub questions : List Question
   pub asks : Asks g old pair.actor pair.request questions
   pub question : Question
@@ -110,7 +111,7 @@ pub record Lacks (g : Ghosts (List ℕ)) (old new : Serving) (pair : Pair) (verd
   pub on : StandsOn g old new
 
 -- nothing was played and C gets nothing, and the service represents what it represented before
-pub record IsUnchanged (g : Ghosts (List ℕ)) (old new : Serving) (o : Outcome) : Type 0 where
+pub record IsUnchanged (g : Ghosts Breaking) (old new : Serving) (o : Outcome) : Type 0 where
   pub on : StandsOn g old new
   pub untold : o.out_then ≡ o.out
 
@@ -119,7 +120,7 @@ abbrev pub IsRefused : Serving → ℕ → Type 0
 IsRefused new status = (status ≡ 1) ⊎ ((status ≡ 13) × MeetsLimit new)
 
 -- a request was played, a verdict was missing, or it was refused
-abbrev pub Answered : Ghosts (List ℕ) → ValidatorGhosts Spoken → Serving → Serving → Pair → List ℤ → Outcome → Type 0
+abbrev pub Answered : Ghosts Breaking → ValidatorGhosts Spoken → Serving → Serving → Pair → List ℤ → Outcome → Type 0
 Answered g v old new pair verdicts o =
     Plays g v old new pair verdicts o
     ⊎ ((o.status ≡ 16) × Lacks g old new pair verdicts o)
@@ -145,7 +146,7 @@ abbrev pub IsUnread : Serving → List ℕ → ℕ → Type 0
 IsUnread old input status = (status ≡ 1) ⊎ ((status ≡ 5) × IsNotOne input) ⊎ ((status ≡ 19) × (old.state.ended ≢ false))
 
 -- the same by the bytes of the record
-abbrev pub Stepped : Ghosts (List ℕ) → ValidatorGhosts Spoken → Serving → Serving → List ℕ → List ℤ → Outcome → Type 0
+abbrev pub Stepped : Ghosts Breaking → ValidatorGhosts Spoken → Serving → Serving → List ℕ → List ℤ → Outcome → Type 0
 Stepped g v old new input verdicts o = ((pair : Pair) × IsWhole pair input × Answered g v old new pair verdicts o) ⊎ (IsUnread old input o.status × IsUnchanged g old new o)
 
 -- the handle held this, and holds that
@@ -167,6 +168,6 @@ abbrev pub IsUnopened : ℕ → Type 0
 IsUnopened status = (status ≡ 1) ⊎ (status ≡ 7) ⊎ (status ≡ 8)
 
 -- nothing was played, over the blocks that these bytes show, with 240 functions for which nothing was handed in
-pub record Begins (g : Ghosts (List ℕ)) (bank : List ℕ) (new : Serving) : Type 0 where
+pub record Begins (g : Ghosts Breaking) (bank : List ℕ) (new : Serving) : Type 0 where
   pub stands : Stands g (first_state (store_of bank) (owners (map (λ (e : KitEntry Spoken). Some e) (mute_below 240))) all_admitted) [] new
   pub after : IsAfter [] new

@@ -23,6 +23,13 @@ impl Model for Handle {
     ghost also_owns = { λ h. held h.at h.service };
 }
 
+/// A box that may go to another thread: C may call from any, one at a time.
+fn sendable<T: Send>(service: T) -> T
+    ensures { result ≡ service }
+{
+    service
+}
+
 impl Handle {
     /// A closed handle.
     fn none() -> Handle
@@ -70,7 +77,7 @@ impl Handle {
         ensures { result.service ≡ option_map (λ service. service.value) service }
     {
         match service {
-            Some(service) => Handle::some(Loose::of(service)),
+            Some(service) => Handle::some(Loose::of(sendable(service))),
             None => Handle::none(),
         }
     }

@@ -1,12 +1,13 @@
 //! The service of a handle: an engine over a bank in memory, whose validation functions answer with what C hands in.
 
-ghost use Rattle.std.specs.Prelude.{◌≡◌, ◌≤◌, ◌%◌, ◌^◌, map, ℕ, List, false, true, Some, None, [], ◌∷◌, IfErr, IfOk, OnOk, OnErr, IfSome, MatchOption, length, drop, slice_get};
+ghost use Rattle.std.specs.Prelude.{◌≡◌, ◌<◌, ◌≤◌, ◌%◌, ◌^◌, map, ℕ, List, false, true, Some, None, [], ◌∷◌, IfErr, IfOk, OnOk, OnErr, IfSome, MatchOption, length, drop, slice_get};
 ghost use Rattle.tbl_kinds.specs.Places.{bank_size};
 ghost use Rattle.tbl_kinds.specs.Requests.{Fits};
 ghost use Rattle.tbl_kinds.specs.Transcript.{entry_bytes};
 ghost use Rattle.table_requests.specs.Questions.{all_asked, question_of};
 ghost use Rattle.tbl_core.specs.Answers.{IsBegun};
 ghost use Rattle.tbl_core.specs.Asking.{StandsOn};
+ghost use Rattle.tbl_core.specs.Banks.{HasBank};
 ghost use Rattle.tbl_core.specs.Engine.{Steps};
 ghost use Rattle.tbl_core.specs.Log.{IsSmall};
 ghost use Rattle.tbl_core.specs.Service.{AskedBelow, HasRoom};
@@ -14,19 +15,21 @@ ghost use Rattle.tbl_outside.specs.declared.validator.KitEntry.{KitEntry};
 ghost use Rattle.handed_kit.specs.Answering.{Spoken};
 ghost use Rattle.handed_kit.specs.Kit.{mute_below};
 ghost use Rattle.tbl_c.specs.Serving.{Answered, Begins, IsPlayed, IsUnopened, Played as IsPlayedBy, Stepped, WillSay, end_of};
+ghost use Rattle.tbl_c.specs.Breaks.{breaking, writes_of};
+ghost use Rattle.tbl_c.specs.Copies.{IsCopied};
 ghost use Rattle.tbl_c.specs.Told.{over_front};
 
 use crate::status::{
     BAD_RECORD, BANK_FAILED, BANK_STOPPED, ENDED, FULL, NO_MEMORY, PLAYED, UNTOLD, VERDICT_MISSING,
 };
-use crate::told::{Told, copy_out};
+use crate::told::{Told, Writes, copy_out};
 use handed_kit::{Answering, mute_entries};
 use session_records::{Next, next_record};
 use std::alloc::Global;
 use std::marker::Model;
 use table_requests::{Question, Questions};
 use tbl_core::{Engine, StartFault, StepFault};
-use tbl_fakes::CalmBank;
+use tbl_fakes::{Break, BreakingBank, Span};
 use tbl_kinds::{Actor, Admit, Entry, Memory, Request};
 use tbl_outside::{Bank, Validator};
 use transcript::spell_entry;
@@ -45,7 +48,7 @@ const SPELLING_ROOM: usize = 20_480;
 #[derive(Drop)]
 pub(crate) struct Service {
     alloc: Global,
-    engine: Engine<CalmBank, Answering>,
+    engine: Engine<BreakingBank, Answering>,
     /// Room for the spelling of one entry.
     out: Vec<u8>,
 }
@@ -58,12 +61,12 @@ impl Model for Service {
     ghost view = { λ s. s.engine };
 }
 
-/// A bank of these bytes.
-fn bank_of(alloc: Global, bytes: &[u8]) -> Result<CalmBank, Memory>
-    requires { length bytes.now ≡ bank_size }
-    ensures { IfOk result (λ bank. bank ≡ bytes.now) }
+/// A bank of these bytes, of which these writes break off.
+fn bank_of(alloc: Global, bytes: &[u8], breaks: &[Break]) -> Result<BreakingBank, Memory>
+    requires { length bytes.now < 2 ^ 32 }
+    ensures { IfOk result (λ bank. bank ≡ breaking breaks.now bytes.now) }
 {
-    Ok(CalmBank::make(Vec::from_slice(alloc, bytes)?))
+    BreakingBank::make(alloc, Vec::from_slice(alloc, bytes)?, breaks)
 }
 
 /// All functions, for which nothing was handed in.
@@ -87,12 +90,12 @@ fn start_status(fault: StartFault) -> u8
 }
 
 /// An engine over a bank of these bytes, with all functions of the kit. An Err is the status.
-fn start(alloc: Global, bank: &[u8]) -> Result<Engine<CalmBank, Answering>, u8>
+fn start(alloc: Global, bank: &[u8]) -> Result<Engine<BreakingBank, Answering>, u8>
     requires { length bank.now ≡ bank_size }
-    ensures begins { IfOk result (Begins ⟦<CalmBank as Bank>⟧ bank.now) }
+    ensures begins { IfOk result (Begins ⟦<BreakingBank as Bank>⟧ bank.now) }
     ensures err { IfErr result IsUnopened }
 {
-    let Ok(bank) = bank_of(alloc, bank) else {
+    let Ok(bank) = bank_of(alloc, bank, &[]) else {
         return Err(NO_MEMORY);
     };
     let Ok(kit) = mute_kit(alloc) else {
@@ -118,13 +121,13 @@ fn open_question(questions: &Questions, answered: usize) -> Option<&Question>
 
 /// Has the functions of two questions answer so. If both are of one function, it answers each image with its own verdict.
 fn hand_two(
-    engine: &mut Engine<CalmBank, Answering>,
+    engine: &mut Engine<BreakingBank, Answering>,
     first: Question,
     second: Question,
     verdict: i32,
     other: i32,
 )
-    ensures on { StandsOn ⟦<CalmBank as Bank>⟧ engine.old engine.new }
+    ensures on { StandsOn ⟦<BreakingBank as Bank>⟧ engine.old engine.new }
     ensures images { engine.new.images ≡ engine.old.images }
     ensures will { WillSay (question_of first ∷ question_of second ∷ []) (verdict ∷ other ∷ []) engine.new.state.kit }
 {
@@ -133,9 +136,9 @@ fn hand_two(
 }
 
 /// Has the functions that are asked answer so.
-fn hand_in(engine: &mut Engine<CalmBank, Answering>, questions: Questions, verdicts: &[i32])
+fn hand_in(engine: &mut Engine<BreakingBank, Answering>, questions: Questions, verdicts: &[i32])
     requires enough { length (all_asked questions) ≤ length verdicts.now }
-    ensures on { StandsOn ⟦<CalmBank as Bank>⟧ engine.old engine.new }
+    ensures on { StandsOn ⟦<BreakingBank as Bank>⟧ engine.old engine.new }
     ensures images { engine.new.images ≡ engine.old.images }
     ensures will { WillSay (all_asked questions) verdicts.now engine.new.state.kit }
 {
@@ -166,12 +169,12 @@ fn tell_question(question: &Question, out: &mut [u8], told: &mut Told)
 }
 
 /// Plays the request of an entry. Its status; an Err means that memory ran out, and then nothing was played.
-fn play(engine: &mut Engine<CalmBank, Answering>, entry: &mut Entry) -> Result<u8, Memory>
+fn play(engine: &mut Engine<BreakingBank, Answering>, entry: &mut Entry) -> Result<u8, Memory>
     requires begun { IsBegun entry.old }
     requires fits { Fits entry.old.actor entry.old.request }
     requires live { engine.old.state.ended ≡ false }
     requires room { HasRoom engine.old entry.old.request }
-    ensures steps { IfOk result (λ status. Steps ⟦<CalmBank as Bank>⟧ ⟦<Answering as Validator>⟧ engine.old engine.new (entry.old.actor, entry.old.request) entry.new (end_of status)) }
+    ensures steps { IfOk result (λ status. Steps ⟦<BreakingBank as Bank>⟧ ⟦<Answering as Validator>⟧ engine.old engine.new (entry.old.actor, entry.old.request) entry.new (end_of status)) }
     ensures played { IfOk result IsPlayed }
     ensures err { OnErr result (engine.new ≡ engine.old) }
 {
@@ -206,7 +209,7 @@ impl Service {
     /// A service over preserved memory of these bytes. An Err is the status.
     pub(crate) fn open(alloc: Global, bank: &[u8]) -> Result<Service, u8>
         requires { length bank.now ≡ bank_size }
-        ensures begins { IfOk result (Begins ⟦<CalmBank as Bank>⟧ bank.now) }
+        ensures begins { IfOk result (Begins ⟦<BreakingBank as Bank>⟧ bank.now) }
         ensures err { IfErr result IsUnopened }
     {
         let Ok(out) = vec![in alloc; 0; SPELLING_ROOM] else {
@@ -227,7 +230,7 @@ impl Service {
         out: &mut [u8],
         told: &mut Told,
     ) -> u8
-        ensures { Stepped ⟦<CalmBank as Bank>⟧ ⟦<Answering as Validator>⟧ self.old self.new input.now
+        ensures { Stepped ⟦<BreakingBank as Bank>⟧ ⟦<Answering as Validator>⟧ self.old self.new input.now
             verdicts.now (record { status = result; told = told.new.length; number = told.new.number; out = out.old; out_then = out.new }) }
     {
         if !self.engine.is_live() {
@@ -253,7 +256,7 @@ impl Service {
     ) -> u8
         requires fits { Fits actor request }
         requires live { self.old.state.ended ≡ false }
-        ensures { Answered ⟦<CalmBank as Bank>⟧ ⟦<Answering as Validator>⟧ self.old self.new (record { actor = actor; request = request })
+        ensures { Answered ⟦<BreakingBank as Bank>⟧ ⟦<Answering as Validator>⟧ self.old self.new (record { actor = actor; request = request })
             verdicts.now (record { status = result; told = told.new.length; number = told.new.number; out = out.old; out_then = out.new }) }
     {
         if !self.engine.make_room(&request) {
@@ -284,7 +287,7 @@ impl Service {
         requires fits { Fits actor request }
         requires live { self.old.state.ended ≡ false }
         requires room { HasRoom self.old request }
-        ensures played { IfOk result (λ status. IsPlayedBy ⟦<CalmBank as Bank>⟧ ⟦<Answering as Validator>⟧ self.old self.new (actor, request)
+        ensures played { IfOk result (λ status. IsPlayedBy ⟦<BreakingBank as Bank>⟧ ⟦<Answering as Validator>⟧ self.old self.new (actor, request)
             (record { status = status; told = told.new.length; number = told.new.number; out = out.old; out_then = out.new })) }
         ensures err { OnErr result (self.new ≡ self.old) }
         ensures untold { OnErr result (out.new ≡ out.old) }
@@ -299,9 +302,48 @@ impl Service {
         }
     }
 
+    /// Has these writes of preserved memory break off, counted from now on, and no others. An Err means that memory ran out, and nothing
+    /// was changed.
+    pub(crate) fn break_writes(&mut self, breaks: &[Break]) -> Result<(), Memory>
+        ensures ok { OnOk result (HasBank ⟦<BreakingBank as Bank>⟧ (breaking breaks.now self.old.state.store.bank.bytes) self.old self.new) }
+        ensures err { OnErr result (self.new ≡ self.old) }
+    {
+        let bank = bank_of(self.alloc, self.engine.bank().bytes(), breaks)?;
+        let _before = self.engine.replace_bank(bank);
+        Ok(())
+    }
+
+    /// The same service in memory of its own, whose preserved memory is to break off in no write. An Err means that memory ran out.
+    pub(crate) fn duplicate(&self) -> Result<Service, Memory>
+        ensures { IfOk result (IsCopied ⟦<BreakingBank as Bank>⟧ self.now) }
+    {
+        let bank = bank_of(self.alloc, self.engine.bank().bytes(), &[])?;
+        let kit = self.engine.kit().renewed(self.alloc, Answering::mute)?;
+        Ok(Service {
+            alloc: self.alloc,
+            engine: self.engine.duplicate(self.alloc, bank, kit)?,
+            out: vec![in self.alloc; 0; SPELLING_ROOM]?,
+        })
+    }
+
+    /// What became of the writes of preserved memory.
+    pub(crate) fn writes(&self) -> Writes
+        ensures { result ≡ writes_of self.now.state.store.bank }
+    {
+        let bank = self.engine.bank();
+        let broken = bank.broken().unwrap_or(Span { at: 0, length: 0 });
+        Writes {
+            made: bank.write_count(),
+            faults: bank.faults(),
+            stops: bank.stops(),
+            at: broken.at,
+            length: broken.length,
+        }
+    }
+
     /// Copies preserved memory from a place on.
     pub(crate) fn bank(&self, from: usize, out: &mut [u8])
-        ensures { out.new ≡ over_front (drop from self.now.state.store.bank) out.old }
+        ensures { out.new ≡ over_front (drop from self.now.state.store.bank.bytes) out.old }
     {
         copy_out(self.engine.bank().bytes(), from, out);
     }

@@ -6,6 +6,7 @@ pub mod Doing
 pub mod Functions
 pub mod Images
 pub mod Keeping
+pub mod OtherBank
 pub mod Owned
 pub mod Owners
 pub mod Ready

@@ -10,4 +10,5 @@ pub mod Pins
 pub mod Service
 pub mod Engine
 pub mod BankAsked
+pub mod Banks
 pub mod Verdicts

@@ -114,11 +114,4 @@ impl<B: Bank, C: Validator> Engine<B, C> {
     {
         self.works.parts.kit.hand(number, check);
     }
-
-    /// The bank.
-    pub fn bank(&self) -> &B
-        ensures { result.now ≡ self.now.state.store.bank }
-    {
-        self.works.parts.store.bank()
-    }
 }

@@ -2,6 +2,7 @@
 #![tactic(auto)]
 
 mod asking;
+mod banks;
 mod boots;
 mod dispatch;
 mod engine;

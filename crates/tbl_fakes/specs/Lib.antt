@@ -1,4 +1,5 @@
 pub mod Banks
+pub mod Breaking
 pub mod Calls
 pub mod Contents
 pub mod Notes

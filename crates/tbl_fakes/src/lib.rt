@@ -2,6 +2,7 @@
 //! calls fail.
 #![tactic(auto)]
 
+mod breaking_bank;
 mod calm;
 mod calm_bank;
 mod gates;
@@ -14,6 +15,7 @@ mod plan;
 mod supply;
 mod troubles;
 
+pub use breaking_bank::BreakingBank;
 pub use calm::{CalmSink, CalmSource};
 pub use calm_bank::CalmBank;
 pub use gates::{CountingGate, MeetingGate, OpenGate, OrderedGate, ReadingGate, Told};

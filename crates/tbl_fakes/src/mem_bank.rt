@@ -12,7 +12,7 @@ ghost use Rattle.tbl_fakes.specs.Notes.{noted};
 
 use crate::notes::Notes;
 use crate::past::{Past, Span};
-use crate::troubles::{Break, Troubles, reach};
+use crate::troubles::{Break, Troubles, reach, write_over};
 use std::alloc::Global;
 use std::marker::Model;
 use tbl_kinds::Memory;
@@ -20,14 +20,6 @@ use tbl_outside::{Bank, Failed, Written};
 
 /// For how many reads a bank in memory has room in its record.
 const READS_NOTED: usize = 4_096;
-
-/// Writes a piece over bytes from a place on.
-fn write_over(bytes: &mut Vec<u8>, at: usize, piece: &[u8])
-    requires { at + length piece.now ≤ length bytes.old.items }
-    ensures bytes { bytes.new.items ≡ take at bytes.old.items ++ piece.now ++ drop (at + length piece.now) bytes.old.items }
-{
-    bytes[at..at + piece.len()].copy_from_slice(piece);
-}
 
 /// Preserved memory whose writes break off, and whose reads fail, if their number says so. It keeps a record of its writes with what was
 /// there before them, which gives its moments, and one of the calls that it got.

@@ -1,5 +1,5 @@
 // What goes wrong in a bank in memory, and how often it did.
-ghost use Rattle.std.specs.Prelude.{◌≡◌, ◌≤◌, IfOk};
+ghost use Rattle.std.specs.Prelude.{◌≡◌, ◌+◌, ◌++◌, ◌≤◌, IfOk, length, take, drop};
 ghost use Rattle.tbl_fakes.specs.Troubles.{none_yet, next_break, is_bad_read, reach_of, how_ends};
 ghost use Rattle.tbl_fakes.specs.Troubles.{one_write, one_read, one_fault, one_end};
 
@@ -8,8 +8,9 @@ use std::marker::Model;
 use tbl_kinds::Memory;
 use tbl_outside::Written;
 
-/// A write of a `MemBank` that breaks off: its number, counted from 1, after how many of its bytes, and whether the bank
-/// is stopped or fails. A number of bytes above the piece's means the whole piece.
+/// A write of a bank in memory that breaks off: its number, counted from 1, after how many of its bytes, and whether the bank is stopped
+/// or fails. A number of bytes above the piece's means the whole piece. It is laid out as in C, where tbl.h has it as `tbl_write_break`.
+#[repr(C)]
 #[derive(Clone, Copy, PartialEq, Eq)]
 pub struct Break {
     pub write: u32,
@@ -53,6 +54,14 @@ pub(crate) fn reach(planned: Option<Break>, length: usize) -> usize
         None => length,
         Some(broken) => (broken.after as usize).min(length),
     }
+}
+
+/// Writes a piece over bytes from a place on.
+pub(crate) fn write_over(bytes: &mut Vec<u8>, at: usize, piece: &[u8])
+    requires { at + length piece.now ≤ length bytes.old.items }
+    ensures bytes { bytes.new.items ≡ take at bytes.old.items ++ piece.now ++ drop (at + length piece.now) bytes.old.items }
+{
+    bytes[at..at + piece.len()].copy_from_slice(piece);
 }
 
 impl Troubles {

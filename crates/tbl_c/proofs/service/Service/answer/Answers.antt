@@ -3,7 +3,7 @@ use Rattle.tbl_model.specs.Telemetry.{Question}
 use Rattle.table_requests.specs.Questions.{all_asked}
 use Rattle.validation.specs.Asked.{GivesEach}
 use Rattle.handed_kit.specs.Answering.{answer_of}
-use Rattle.tbl_fakes.specs.contracts.calm_bank.CalmBankBank.TheImpl.{ghosts}
+use Rattle.tbl_fakes.specs.contracts.breaking_bank.BreakingBankBank.TheImpl.{ghosts}
 use Rattle.tbl_core.specs.Asking.{StandsOn}
 use Rattle.tbl_c.specs.Serving.{Serving}
 use Rattle.tbl_c.proofs.Stepping.{on_on, asked_before, will_have_said}
