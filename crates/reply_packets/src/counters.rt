@@ -53,6 +53,30 @@ impl Model for Validation {
     ghost view = { λ v. record { check = v.check; verdict = v.verdict; active = v.active; name = v.name } };
 }
 
+impl Update {
+    /// The same update once more.
+    fn duplicate(&self) -> Update
+        ensures { result ≡ self.now }
+    {
+        Update {
+            name: self.name.copy(),
+            ..*self
+        }
+    }
+}
+
+impl Validation {
+    /// The same validation once more.
+    fn duplicate(&self) -> Validation
+        ensures { result ≡ self.now }
+    {
+        Validation {
+            name: self.name.copy(),
+            ..*self
+        }
+    }
+}
+
 /// A sequence count after one packet more.
 fn after(known: u16) -> u16
     requires { known < 16384 }
@@ -154,6 +178,29 @@ impl Counters {
             loaded: Name40::of(&[]),
             loaded_file: Name64::of(&[]),
             dumped_file: Name64::of(&[]),
+        }
+    }
+
+    /// The same running numbers. It takes no memory.
+    pub fn duplicate(&self) -> Counters
+        ensures { counts_view result ≡ counts_view self.now }
+    {
+        Counters {
+            accepted: self.accepted,
+            refused: self.refused,
+            finished: self.finished,
+            good: self.good,
+            bad: self.bad,
+            requests: self.requests,
+            events: self.events,
+            housekeepings: self.housekeepings,
+            registries: self.registries,
+            notices: self.notices,
+            validation: self.validation.duplicate(),
+            update: self.update.duplicate(),
+            loaded: self.loaded.copy(),
+            loaded_file: self.loaded_file.copy(),
+            dumped_file: self.dumped_file.copy(),
         }
     }
 

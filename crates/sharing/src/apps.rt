@@ -70,6 +70,36 @@ fn free(names: &mut [Option<Name20>], place: usize)
     names[place] = None;
 }
 
+/// The same name once more, if there is one. It takes no memory.
+fn copy_of(name: &Option<Name20>) -> Option<Name20>
+    ensures { result ≡ name.now }
+{
+    match name {
+        Some(name) => Some(name.copy()),
+        None => None,
+    }
+}
+
+/// Writes the same names over others, of which there are as many.
+fn copy_names(names: &mut [Option<Name20>], from: &[Option<Name20>])
+    requires { length names.old ≡ length from.now }
+    ensures { names.new ≡ from.now }
+{
+    for place in 0..from.len() {
+        names[place] = copy_of(&from[place]);
+    }
+}
+
+/// The name of no application.
+fn no_names() -> [Option<Name20>; 16]
+    ensures { result ≡ replicate 16 None }
+{
+    [
+        None, None, None, None, None, None, None, None, None, None, None, None, None, None, None,
+        None,
+    ]
+}
+
 impl Apps {
     /// No application runs.
     pub fn make() -> Apps
@@ -81,6 +111,15 @@ impl Apps {
                 None, None,
             ],
         }
+    }
+
+    /// The same applications under the same names. It takes no memory.
+    pub fn duplicate(&self) -> Apps
+        ensures { result ≡ self.now }
+    {
+        let mut names = no_names();
+        copy_names(&mut names, &self.names);
+        Apps { names }
     }
 
     /// Starts an application under a name: `ERR_APP_RUNNING` if it runs already, `ERR_INVALID_NAME` if that is no name or has a dot, since

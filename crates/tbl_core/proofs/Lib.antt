@@ -27,3 +27,4 @@ pub mod Lending
 pub mod Answering
 pub mod Questions
 pub mod Nothing
+pub mod Moved

@@ -2,6 +2,7 @@ pub mod Ended
 pub mod Requests
 pub mod Answers
 pub mod Asking
+pub mod Copying
 pub mod Lent
 pub mod Log
 pub mod Numbers

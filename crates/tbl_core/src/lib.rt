@@ -4,6 +4,7 @@
 mod asking;
 mod banks;
 mod boots;
+mod copying;
 mod dispatch;
 mod engine;
 mod log;

@@ -39,10 +39,10 @@ pub(crate) struct Parts<B: Bank, C: Validator> {
 
 /// What the parts take from memory besides the store.
 #[derive(Drop)]
-struct Room {
-    tables: Tables,
-    drawer: Drawer,
-    report: Report,
+pub(crate) struct Room {
+    pub tables: Tables,
+    pub drawer: Drawer,
+    pub report: Report,
 }
 
 impl Room {
