@@ -4,6 +4,7 @@
 # make package       makes a Debian package and a tarball of them, in out/package
 # make release       makes both and their checksums in out/release, of what is proved and committed
 # make test          the tests: ./cfetbl test
+# make claims        writes out/claims.md: each public function with its promise, its clauses and the wrong bodies that are refused
 #
 # DESTDIR= stands before each path that is written, as packages need it. PROGRAMS= is a folder with other builds of the programs and the library.
 PREFIX = /usr/local
@@ -21,4 +22,7 @@ package release:
 test:
 	./cfetbl test
 
-.PHONY: all install uninstall package release test
+claims:
+	tools/gate/claims
+
+.PHONY: all install uninstall package release test claims

@@ -40,6 +40,6 @@ def is_more(figure, other, slack=SLACK) -> bool:
 def more_than_kept(of_document, name, values, slack=SLACK) -> Iterator[str]:
     """What is wrong with the figures of a row, by those that a document keeps."""
     if name not in of_document:
-        yield "docs/PERFORMANCE.md has no figure"
+        yield "docs/work/performance.md has no figure"
     elif any(is_more(*it, slack) for it in zip(values, of_document[name])):
-        yield f"docs/PERFORMANCE.md has {' '.join(f'{it:,}' for it in of_document[name][:len(values)])}"
+        yield f"docs/work/performance.md has {' '.join(f'{it:,}' for it in of_document[name][:len(values)])}"

@@ -1,4 +1,4 @@
-"""What docs/CLAIMS.md and docs/HEADLINE.md are counted by: tools/reached.py, tools/tried.py, tools/gate/believed."""
+"""What docs/proof/README.md is checked by: tools/gate/claims, tools/gate/believed, tools/reached.py, tools/tried.py."""
 import os
 import tempfile
 import unittest
@@ -74,11 +74,78 @@ fn mapped() {}
 '''
 
 
-def believed():
-    loader = machinery.SourceFileLoader("believed", os.path.join(TOOLS, "gate", "believed"))
+def check_of_gate(name):
+    """A check of tools/gate, as a module."""
+    loader = machinery.SourceFileLoader(name, os.path.join(TOOLS, "gate", name))
     module = util.module_from_spec(util.spec_from_loader(loader.name, loader))
     loader.exec_module(module)
     return module
+
+
+def believed():
+    return check_of_gate("believed")
+
+
+class Claims(unittest.TestCase):
+    """Each fault is planted into rows that have none."""
+
+    def setUp(self):
+        self.claims = check_of_gate("claims")
+        self.functions = {}
+        for path, clauses in (("check_word::check16", ["ensures"]), ("tbl_top::run", ["outcome", "once"]), ("tbl_live::Board::at", ["receipt"])):
+            self.functions[path] = self.claims.Function(None, path.split("::")[-1], True, ["It does."])
+            self.functions[path].clauses = clauses
+        self.promise = ["All is right", "`tbl_top::run`", "`outcome`", "`legal` of `IsServed`", "`tbl_core/every_request_succeeds`"]
+
+    def faults_of(self, cell, said):
+        row = self.promise[:cell] + [said] + self.promise[cell + 1:]
+        return "".join(self.claims.promise_faults([row], self.functions, {"IsServed": {"legal"}}))
+
+    def test_promises(self):
+        self.assertEqual(self.faults_of(0, "All is right"), "")
+        self.assertEqual(self.faults_of(4, "`tbl_top/wrong-bodies/bad_record_is_short`"), "")
+        for cell, said, fault in ((1, "`tbl_top::walk`", "tbl_top::walk, outcome"), (1, "-", "outcome, function"), (2, "`income`", "income"), (2, "-", "clause"),
+                                  (3, "`regal` of `IsServed`", "regal of IsServed"), (4, "`tbl_core/no_edit`", "tbl_core/no_edit"),
+                                  (4, "`tbl_top/bad_record_is_short`", "tbl_top/bad_record_is_short"), (4, "-", "wrong body")):
+            with self.subTest(said=said):
+                self.assertTrue(self.faults_of(cell, said).endswith(f"All is right: there is no {fault}"), self.faults_of(cell, said))
+
+    def test_clauses_of_claims(self):
+        for carriers, clauses, fault in (("`run` of `tbl_top`", "`outcome`; `once`", ""), ("`run` of `tbl_top`", "`twice`", "twice"),
+                                         ("`Board` of `tbl_live`", "`receipt`, and those of `Bank::read_at`", ""),
+                                         ("`check16` of `check_word`", "its one clause", ""), ("`run` of `tbl_top`", "its one clause", "clause"),
+                                         ("`run` of `tbl_top`", "-", "clause")):
+            with self.subTest(carriers=carriers, clauses=clauses):
+                found = "".join(self.claims.clause_faults([["It holds", carriers, clauses]], self.functions))
+                self.assertEqual(found, fault and f"docs/proof/README.md: It holds: there is no {fault}")
+
+    def test_functions_that_the_program_calls(self):
+        def faults(path, libraries):
+            return [it.split(": ", 1)[1] for it in self.claims.carrier_faults([path], libraries, self.functions, {"tbl_top::run"})]
+
+        self.assertEqual(faults("tbl_top::run", {}), [])
+        self.assertEqual(faults("tbl_live::Board", {"tbl_live": set()}), [])
+        self.assertEqual(faults("tbl_live::Board::at", {"tbl_live": {"Board::at"}}), [])
+        self.assertEqual(faults("tbl_live::Board::on", {}), ["there is no tbl_live::Board::on"])
+        not_called = ["the program doesn't call tbl_live::Board::at, and the table of libraries doesn't have it"]
+        self.assertEqual(faults("tbl_live::Board::at", {}), not_called)
+        self.assertEqual(faults("tbl_live::Board::at", {"tbl_live": {"Board::publish"}}), not_called)
+
+    def test_libraries(self):
+        def faults(crate, *names):
+            return [it.split(": ", 1)[1] for it in self.claims.library_faults({crate: set(names)}, self.functions, {"tbl_top::run"})]
+
+        self.assertEqual(faults("tbl_live"), [])
+        self.assertEqual(faults("tbl_top"), ["the program stands on tbl_top, so the table of libraries has to name its functions"])
+        self.assertEqual(faults("tbl_top", "run"), ["run of tbl_top isn't there, or the program calls it"])
+
+    def test_a_page_without_its_tables(self):
+        found = "\n".join(self.claims.page_faults("# What is proved\n", {}))
+        self.assertEqual(found.count("has no table that begins with"), 3)
+
+    def test_carriers_of_a_cell(self):
+        said = "`Core::start`, `Core::step_read` of `tbl_core`, and `crew` of `tbl_crew`, which finds it"
+        self.assertEqual(list(self.claims.carriers_in(said)), ["tbl_core::Core::start", "tbl_core::Core::step_read", "tbl_crew::crew"])
 
 
 class Reached(unittest.TestCase):

@@ -8,7 +8,7 @@ from tblkit import records, report, show, transcript
 from . import long_session
 from .test_commands import call
 
-# Seconds of one processor. The aim is 2 (docs/PERFORMANCE.md has what was measured); a gate may have a slower machine, at other work.
+# Seconds of one processor. The aim is 2 (docs/work/performance.md has what was measured); a gate may have a slower machine, at other work.
 MOST_SECONDS, MOST_BYTES = 6, 3_000_000
 SHOWN = (("show",), ("show", "--json"), ("show", "--session-order"))
 

@@ -199,18 +199,18 @@ class Figures(unittest.TestCase):
     def test_what_is_more(self):
         kept = {"NOOP": [1000, 900]}
         self.assertEqual(list(figures.more_than_kept(kept, "NOOP", [1020])), [])
-        self.assertEqual(list(figures.more_than_kept(kept, "NOOP", [1021])), ["docs/PERFORMANCE.md has 1,000"])
-        self.assertEqual(list(figures.more_than_kept(kept, "NOOP", [1000, 919])), ["docs/PERFORMANCE.md has 1,000 900"])
+        self.assertEqual(list(figures.more_than_kept(kept, "NOOP", [1021])), ["docs/work/performance.md has 1,000"])
+        self.assertEqual(list(figures.more_than_kept(kept, "NOOP", [1000, 919])), ["docs/work/performance.md has 1,000 900"])
         self.assertEqual(list(figures.more_than_kept(kept, "NOOP", [1050], figures.MEMORY_SLACK)), [])
-        self.assertEqual(list(figures.more_than_kept(kept, "NOOP", [1051], figures.MEMORY_SLACK)), ["docs/PERFORMANCE.md has 1,000"])
-        self.assertEqual(list(figures.more_than_kept(kept, "LOAD", [1])), ["docs/PERFORMANCE.md has no figure"])
+        self.assertEqual(list(figures.more_than_kept(kept, "NOOP", [1051], figures.MEMORY_SLACK)), ["docs/work/performance.md has 1,000"])
+        self.assertEqual(list(figures.more_than_kept(kept, "LOAD", [1])), ["docs/work/performance.md has no figure"])
 
     def test_times(self):
         self.assertEqual(figures.beside([1500, 1000], "{:,}"), ["1,500", "1,000", "1.50"])
         self.assertEqual(figures.beside([1500], "{:,}"), ["1,500"])
 
     def test_the_document_has_each_row(self):
-        with open(os.path.join(TOP, "docs", "PERFORMANCE.md"), encoding="utf-8") as document:
+        with open(os.path.join(TOP, "docs", "work", "performance.md"), encoding="utf-8") as document:
             lines = document.readlines()
         for heads, rows in ((["work", "instructions a request"], [it.name for it in works.works()]),
                             (["work", "requests"], [it.name for it in works.works()]),
