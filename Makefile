@@ -1,10 +1,10 @@
 # make               proves the programs and the library that are installed; it needs the Rattle kit (`rt` on the path)
+# make claims        writes out/claims.md: each public function with its promise, its clauses and the wrong bodies that are refused
 # make install       installs them with their tools, headers, manual page, completion, documents and examples; PREFIX= is /usr/local
 # make uninstall     takes the same files away
 # make package       makes a Debian package and a tarball of them, in out/package
 # make release       makes both and their checksums in out/release, of what is proved and committed
 # make test          the tests: ./cfetbl test
-# make claims        writes out/claims.md: each public function with its promise, its clauses and the wrong bodies that are refused
 #
 # DESTDIR= stands before each path that is written, as packages need it. PROGRAMS= is a folder with other builds of the programs and the library.
 PREFIX = /usr/local
@@ -12,6 +12,11 @@ export DESTDIR PREFIX PROGRAMS
 
 all:
 	tools/install programs
+
+claims:
+	tools/gate/claims
+
+.PHONY: claims
 
 install uninstall:
 	tools/install $@
@@ -22,7 +27,4 @@ package release:
 test:
 	./cfetbl test
 
-claims:
-	tools/gate/claims
-
-.PHONY: all install uninstall package release test claims
+.PHONY: all install uninstall package release test
