@@ -95,16 +95,16 @@ class Claims(unittest.TestCase):
         for path, clauses in (("check_word::check16", ["ensures"]), ("tbl_top::run", ["outcome", "once"]), ("tbl_live::Board::at", ["receipt"])):
             self.functions[path] = self.claims.Function(None, path.split("::")[-1], True, ["It does."])
             self.functions[path].clauses = clauses
-        self.promise = ["All is right", "`tbl_top::run`", "`outcome`", "`legal` of `IsServed`", "`tbl_core/every_request_succeeds`"]
+        self.promise = ["All is right", "`run` of `tbl_top`", "`outcome`", "`legal`, `whole` of `IsServed`", "`tbl_core/every_request_succeeds`"]
 
     def faults_of(self, cell, said):
         row = self.promise[:cell] + [said] + self.promise[cell + 1:]
-        return "".join(self.claims.promise_faults([row], self.functions, {"IsServed": {"legal"}}))
+        return "".join(self.claims.promise_faults([row], self.functions, {"IsServed": {"legal", "whole"}}))
 
     def test_promises(self):
         self.assertEqual(self.faults_of(0, "All is right"), "")
         self.assertEqual(self.faults_of(4, "`tbl_top/wrong-bodies/bad_record_is_short`"), "")
-        for cell, said, fault in ((1, "`tbl_top::walk`", "tbl_top::walk, outcome"), (1, "-", "outcome, function"), (2, "`income`", "income"), (2, "-", "clause"),
+        for cell, said, fault in ((1, "`walk` of `tbl_top`", "tbl_top::walk, outcome"), (1, "-", "outcome, function"), (2, "`income`", "income"), (2, "-", "clause"),
                                   (3, "`regal` of `IsServed`", "regal of IsServed"), (4, "`tbl_core/no_edit`", "tbl_core/no_edit"),
                                   (4, "`tbl_top/bad_record_is_short`", "tbl_top/bad_record_is_short"), (4, "-", "wrong body")):
             with self.subTest(said=said):
