@@ -1,5 +1,5 @@
 -- Over another bank of the same bytes an engine stands for whatever it stood for.
-use Rattle.std.proofs.Common.{◌≡◌, List, false, ℕ, refl, sym, subst}
+use Rattle.std.proofs.Common.{◌≡◌, List, ℕ, refl, sym, subst}
 use Rattle.tbl_kinds.specs.Blocks.{Store as Blocks}
 use Rattle.tbl_kinds.specs.StoreSteps.{Shows as ShowsBlocks}
 use Rattle.cds_layout.specs.Images.{store_of}
