@@ -3,7 +3,7 @@
  *
  * An application's C code calls CFE_TBL_Register, CFE_TBL_GetAddress, CFE_TBL_Load, CFE_TBL_Manage and their kin by cFE's names, and a test
  * calls the functions with CFETBL_ below, which do what cFE and the ground do: start an application, uplink a file, send a command,
- * reset the processor. docs/CFE.md says where this service differs from cFE.
+ * reset the processor. docs/reference/cfe.md says where this service differs from cFE.
  *
  * The calls are those of edition 7 of cFE's API ('Caelum'). With CFETBL_CFE_VERSION 607, for this file and for cfetbl.c, three of them are
  * as in 6.7: CFE_TBL_Register takes a uint32 as size, CFE_ES_RegisterCDS an int32, and CFE_ES_CopyToCDS a void pointer that isn't const.
@@ -201,7 +201,7 @@ uint32_t CFETBL_DeleteCdsCmd(const char *table);
 /* Asks for a housekeeping packet, which also writes the files of filled dumps. */
 uint32_t CFETBL_HousekeepingCmd(void);
 
-/* Sends a command packet as it is, with its headers and its checksum, in the layout that docs/FORMATS.md has. */
+/* Sends a command packet as it is, with its headers and its checksum, in the layout that docs/reference/packets.md has. */
 uint32_t CFETBL_Command(const void *packet, size_t length);
 
 /* ---- what a test forces */
@@ -213,7 +213,7 @@ bool CFETBL_Fail(const char *call, unsigned nth, CFE_Status_t code);
 /* ---- what was answered */
 
 /* What the last call or command was answered with: CFETBL_NOT_PLAYED if it made no request. Reply bytes and packets stay until the next
- * call; docs/FORMATS.md lays them out. */
+ * call; docs/reference/packets.md lays them out. */
 struct CFETBL_Answer {
     uint32_t status;
     uint32_t detail;
@@ -226,7 +226,7 @@ struct CFETBL_Answer {
 struct CFETBL_Answer CFETBL_LastAnswer(void);
 
 /* The next event of calls and commands that wasn't given yet, in their order, or false. At most 131,072 wait: of more the oldest go.
- * docs/FORMATS.md has the numbers of events; the row is the table's in the registry, 0xFFFF for none. */
+ * docs/reference/statuses.md has the numbers of events; the row is the table's in the registry, 0xFFFF for none. */
 struct CFETBL_Event {
     uint16_t number;
     uint32_t status;

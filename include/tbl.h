@@ -2,7 +2,7 @@
 /* tbl.h: the table service for C, a request at a time. But for tbl_is_proved and tbl_validator_app these are the functions of the proved crate
  * tbl_c as it exports them, with no C between: docs/proof/README.md says what is proved of them.
  *
- * A handle holds a service. tbl_open boots one over preserved memory; tbl_step plays one record, as docs/FORMATS.md lays it out, and tells
+ * A handle holds a service. tbl_open boots one over preserved memory; tbl_step plays one record, as docs/reference/records.md lays it out, and tells
  * the entry that a transcript has for it; tbl_close frees all. A service takes as much memory after a million records as after ten, and
  * has no last one.
  *

@@ -101,7 +101,7 @@ static bool end(const char *function, uint32_t status)
 {
     cfetbl_leave();
     if (status != CFETBL_SUCCESS && status != CFETBL_NOT_PLAYED) {
-        cfetbl_say("%s: refused with status %u of docs/FORMATS.md", function, (unsigned)status);
+        cfetbl_say("%s: refused with status %u of docs/reference/statuses.md", function, (unsigned)status);
     }
     return status == CFETBL_SUCCESS;
 }

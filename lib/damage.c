@@ -1,5 +1,5 @@
 /* SPDX-License-Identifier: Apache-2.0 */
-/* damage.c: damages a block of the Critical Data Store, in the bytes that docs/STORE.md lays out. */
+/* damage.c: damages a block of the Critical Data Store, in the bytes that docs/reference/store.md lays out. */
 #include "cfetbl_service.h"
 
 #include <string.h>

@@ -5,7 +5,7 @@
 --     wireshark -X lua_script:tools/cfetbl.lua CAPTURE        with a capture of `cfetbl show --pcap CAPTURE`
 --
 -- It takes datagrams to UDP port 1234 as commands, and those to 1235 as what the service sends. Telemetry may be in the layouts of
--- docs/FORMATS.md or in cFE's (`cfetbl serve --cfe-layout`): its length tells which, unless the preferences of the protocol say it.
+-- docs/reference/packets.md or in cFE's (`cfetbl serve --cfe-layout`): its length tells which, unless the preferences of the protocol say it.
 -- Numbers in cFE's layouts begin with their low byte, unless they say otherwise:
 --
 --     tshark -X lua_script:tools/cfetbl.lua -o cfetbl.layout:cfe -o cfetbl.big_endian:TRUE -r CAPTURE
@@ -17,7 +17,7 @@ local BY_LENGTH, OWN, OF_CFE = 0, 1, 2
 
 local cfetbl = Proto("cfetbl", "cFE Table Services")
 local choices = { { 1, "guess", BY_LENGTH }, { 2, "formats", OWN }, { 3, "cfe", OF_CFE } }
-cfetbl.prefs.layout = Pref.enum("Layouts of packets", BY_LENGTH, "by their length, those of docs/FORMATS.md, or cFE's", choices, false)
+cfetbl.prefs.layout = Pref.enum("Layouts of packets", BY_LENGTH, "by their length, those of docs/reference/packets.md, or cFE's", choices, false)
 cfetbl.prefs.big_endian = Pref.bool("Big-endian numbers in cFE's layouts", false, "numbers in payloads begin with their high byte")
 
 -- The rows of names.tsv by section, each as the list of its columns.

@@ -6,7 +6,7 @@ the fields that have something to tell, as tools/names.tsv calls them. Answers s
 
     0; 1, bytes 0A0B; 77 4294967295; 0, event number 5 row 0 detail 1; 0, housekeeping open loads 1 table of the last load "A.T"
 
-A packet's count and time aren't written: they are those of docs/FORMATS.md after the answers before. One that has others, or that isn't
+A packet's count and time aren't written: they are those of docs/reference/packets.md after the answers before. One that has others, or that isn't
 whole, stands as `packet` with its bytes.
 """
 import io

@@ -1,5 +1,5 @@
 /* SPDX-License-Identifier: Apache-2.0 */
-/* calls.c: each call of cfetbl.h, with the return codes that cFE's User's Guide and docs/CFE.md give. */
+/* calls.c: each call of cfetbl.h, with the return codes that cFE's User's Guide and docs/reference/cfe.md give. */
 #include "cfetbl.h"
 
 #include "expect.h"

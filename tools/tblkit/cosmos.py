@@ -60,7 +60,7 @@ def _known_by(layout) -> dict[str, int]:
 
 
 def _lines(known) -> Iterator[str]:
-    layout = "cFE's default layouts" if known.is_cfe else "the layouts of docs/FORMATS.md"
+    layout = "cFE's default layouts" if known.is_cfe else "the layouts of docs/reference/packets.md"
     yield f"# cFE Table Services, in {layout}."
     for command in known.commands():
         yield f'\nCOMMAND {TARGET} {command.name} BIG_ENDIAN "{command.says}"'

@@ -1,4 +1,4 @@
-"""The known differences from cFE that calls can meet: rows of docs/CFE.md, which the table of names has by their numbers."""
+"""The known differences from cFE that calls can meet: rows of docs/reference/cfe.md, which the table of names has by their numbers."""
 import functools
 from dataclasses import dataclass
 
@@ -24,7 +24,7 @@ class Known:
                 and (code in self.codes or ANY in self.codes) and (not self.condition or holds(self.condition)))
 
     def words(self) -> str:
-        return f"difference {self.number} of docs/CFE.md: {self.what}"
+        return f"difference {self.number} of docs/reference/cfe.md: {self.what}"
 
 
 @functools.cache

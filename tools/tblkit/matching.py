@@ -2,7 +2,7 @@
 same requests in the same order of turns.
 
 The program decides all of it but for what it isn't told: what stood in preserved memory before, and which spacecraft and
-processors were admitted. After an answer that these explain, and without a program, what follows is held against docs/FORMATS.md
+processors were admitted. After an answer that these explain, and without a program, what follows is held against docs/reference/packets.md
 alone: which application runs and has which handle and table, the packets with their counts and times, and what may be replied.
 """
 import contextlib

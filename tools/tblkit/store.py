@@ -1,4 +1,4 @@
-"""The bytes of preserved memory, docs/STORE.md: the directory, which entries count, and what stands in the places of their blocks."""
+"""The bytes of preserved memory, docs/reference/store.md: the directory, which entries count, and what stands in the places of their blocks."""
 from dataclasses import dataclass
 
 from . import layouts, names
@@ -176,7 +176,7 @@ def most_fitting(blocks) -> int:
 
 
 def text(bank) -> str:
-    """The store as text, docs/STORE.md: a line for each block that counts, and one for all."""
+    """The store as text, docs/reference/store.md: a line for each block that counts, and one for all."""
     blocks = counted(bank)
     lines = [f"{it.slot} {it.offset} {it.size} {KINDS[it.kind][0].upper()} {it.name.decode()} {'whole' if block(bank, it).is_whole else 'torn'}"
              for it in blocks]

@@ -173,7 +173,7 @@ def containers(name, says, layouts) -> str:
 
 def definition(known, further=None) -> str:
     """The definition of all commands and packets, as a text. Its packets extend a further container, if one is given."""
-    layout = "in cFE's default layouts" if known.is_cfe else "in the layouts of docs/FORMATS.md"
+    layout = "in cFE's default layouts" if known.is_cfe else "in the layouts of docs/reference/packets.md"
     root = _system(SYSTEM, f"cFE Table Services, {layout}", list(known.telemetry()), further)
     commands, header = _Commands(root), known.command_header()
     commands.header(header)

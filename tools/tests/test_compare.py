@@ -75,7 +75,7 @@ class Compared(unittest.TestCase):
         self.assertEqual((status, written.splitlines()[:3]), (1, [
             "LOG:12: app 1 CFE_TBL_GetAddress 7 -> CFE_SUCCESS bytes 01020304",
             "    here: app 1 get 0 -> 59 ERR_ALREADY_PINNED, for which cFE has no return code",
-            "    known: difference 8 of docs/CFE.md: the address is given again there (--expect known passes over it)"]))
+            "    known: difference 8 of docs/reference/cfe.md: the address is given again there (--expect known passes over it)"]))
         self.assertEqual(self.compare(log, b"", "--expect", "known"), (0, "no difference: 6 calls, but for known ones: 8 (once)\n", ""))
         self.assertEqual(self.compare(log.replace("bytes 01020304\n", "bytes 01020305\n"), b"", "--expect", "known")[0], 1)
 
@@ -84,7 +84,7 @@ class Compared(unittest.TestCase):
         front = LOG.replace("ground VALIDATE inactive CTRL.LIMITS\n", "").splitlines()
         log = "\n".join([*front[:4], *front[6:9], "app 1 CFE_TBL_Update 7 -> CFE_SUCCESS", "app 1 CFE_TBL_GetAddress 7 -> CFE_TBL_INFO_UPDATED bytes 05060708"])
         self.assertEqual(self.compare(log + "\n", b"", "--expect", "known")[:2], (0, "no difference: 4 calls, but for known ones: 43 (once)\n"))
-        self.assertIn("    known: difference 43 of docs/CFE.md", self.compare(log + "\n")[1])
+        self.assertIn("    known: difference 43 of docs/reference/cfe.md", self.compare(log + "\n")[1])
         log = "\n".join([*front[:3], "app 1 CFE_TBL_GetAddress 7 -> CFE_TBL_ERR_NEVER_LOADED", front[3].replace("SUCCESS", "TBL_INFO_TABLE_LOCKED"),
                          "app 1 CFE_TBL_GetAddress 7 -> CFE_TBL_ERR_NEVER_LOADED"])
         self.assertEqual(self.compare(log + "\n", b"", "--expect", "known")[:2], (

@@ -14,7 +14,7 @@ from .test_commands import call, into_full
 from .test_text import bytes_of
 
 EXAMPLES = sorted(glob.glob(os.path.join(recorded.TOP, "examples", "*.session")))
-# The commands of docs/FORMATS.md with their bytes, and what is asked of a reader of definitions.
+# The commands of docs/reference/packets.md with their bytes, and what is asked of a reader of definitions.
 COMMANDS = (
     ("1804 C000 0001 00 22", "NOOP", {}), ("1804 C000 0001 01 23", "RESET_COUNTERS", {}), ("180C C000 0001 00 2A", "HOUSEKEEPING", {}),
     ("1804 C000 0041 02 2B 2F72616D2F612E74626C 00*54", "LOAD", {"file": "/ram/a.tbl"}),

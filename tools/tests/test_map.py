@@ -1,4 +1,4 @@
-"""`cfetbl map`: the bank of docs/STORE.md, entries that don't count, gaps, and what its page says."""
+"""`cfetbl map`: the bank of docs/reference/store.md, entries that don't count, gaps, and what its page says."""
 import os
 import re
 import tempfile

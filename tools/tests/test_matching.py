@@ -98,7 +98,7 @@ class Matching(unittest.TestCase):
                     self.assertEqual(is_own(session, output), number == other, (number, other))
 
     def test_commands_of_a_wrong_form(self):
-        """The first fault of a packet, in the order of docs/FORMATS.md. The byte 7 of each that is long enough makes it whole."""
+        """The first fault of a packet, in the order of docs/reference/packets.md. The byte 7 of each that is long enough makes it whole."""
         for packet, fault in (("1804C00000010000", (0, 0)), ("1804", (80, 1)), ("1804C00000020000", (80, 2)), ("1805C00000010000", (81, 0x1805)),
                               ("1804C000000120 00", (82, 32)), ("1804C0000002000000", (83, 1)), ("1804C000002905 00" + 40 * "00", (84, 1)),
                               ("1804C000004102 00" + 64 * "00", (84, 2)), ("180CC0000001FF00", (0, 0))):

@@ -20,7 +20,7 @@ makes the calls of sessions. A line without a return code is one of session text
 
 Both are played here, over an empty store. Compared are the return codes, the bytes at an address and of a block, and what GetInfo
 tells. The first call that is answered otherwise here is told with the state in which it was made, and with the known difference that
-it is, if it is one: a row of docs/CFE.md, by its number. With --expect known those are passed over and counted. If a table is in
+it is, if it is one: a row of docs/reference/cfe.md, by its number. With --expect known those are passed over and counted. If a table is in
 another state there after a known difference, further calls of it aren't compared, and are counted too.
 
 A handle of the log stands for the one here that the same registration gave. A validation function gives the verdict that the log has,

@@ -4,7 +4,7 @@
 
 They are written to FILE or to standard output, as one file for the folder cmd_tlm/ of a target that is called CFE_TBL.
 --cfe-layout takes cFE's default layouts, in which `cfetbl serve --cfe-layout` sends its telemetry, and else the layouts are those
-of docs/FORMATS.md. Of cFE's layouts the numbers in payloads begin with their low byte, as on most processors; with --big-endian
+of docs/reference/packets.md. Of cFE's layouts the numbers in payloads begin with their low byte, as on most processors; with --big-endian
 they begin with the high one. --event-ids takes the numbers of events from your cfe_tbl_eventids.h.
 
 The definitions leave the checksum of a command 0. The ground system puts it in, so that the exclusive or of 0xFF and all bytes is 0,

@@ -8,7 +8,7 @@
     cfetbl explain                      the numbers and names of all, and cFE's words
 
 Of each it tells what it is called in cFE, what it means, when it comes, and what to do. `run` is the status with which the program
-ends. docs/FORMATS.md has all of them as an index, made of the same table (tools/names.tsv), and the order in which refusals are
+ends. docs/reference/statuses.md has all of them as an index, made of the same table (tools/names.tsv), and the order in which refusals are
 tested. What is said of cFE is said of its default configuration as far as this project knows it.
 
 Exit status: 0; 2 if there is no such number or name; 4 if a write fails.

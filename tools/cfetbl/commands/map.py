@@ -9,7 +9,7 @@ size without the head of 8 bytes, its state, which of its two places shows, and 
 place. Its state is whole; reserved and without an image, since no copy into it completed; or torn, which means that the bytes
 of the place that shows don't match its head. A torn block has both check words: the one that stands in its head, and that of
 its bytes. What is free is told for the first places; the second ones lie 131,072 bytes further on in the same order. A block of
-version 1 has one place. An entry with an open gate that doesn't count is told with the reason. docs/STORE.md has each byte.
+version 1 has one place. An entry with an open gate that doesn't count is told with the reason. docs/reference/store.md has each byte.
 
 Exit status: 0; 2 for wrong use, or where the file isn't a store file or can't be read; 4 where a write fails.
 """

@@ -8,7 +8,7 @@ ground. A notice goes to the owner of its table alone, with the answer to the co
 that come over a local socket, where the lines of each answer are followed by an empty one. `file` lines uplink files, and `time`
 lines set the time. The store file is cds.store of the working folder, as it is for `cfetbl play`.
 
-    --cfe-layout            as cFE's table task: its layouts, events, sequence counts and time (docs/FORMATS.md); no checksum is looked
+    --cfe-layout            as cFE's table task: its layouts, events, sequence counts and time (docs/reference/cfe-packets.md); no checksum is looked
                             at, and datagrams with other message ids than its own are nobody's
     --big-endian            numbers there begin with their high byte
     --debug-events          sends events of type DEBUG there too, which cFE leaves out until they are enabled

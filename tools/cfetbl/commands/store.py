@@ -11,7 +11,7 @@ its full name, and whether it is whole or torn. The last line has how many block
 Indented lines are no part of that: they tell of a torn block why it is torn, and why an entry that is open doesn't count (the next
 start closes it). A block is torn where neither place shows, since no copy into it completed, or where the bytes of the one that
 shows were damaged; then the length and the check word that stand in its head are told, and the check word of its bytes.
-docs/STORE.md has every byte.
+docs/reference/store.md has every byte.
 
 FILE is the store file of a program, 262,144 bytes of preserved memory, or 131,072 in version 1, in which a block has one place;
 the next start carries such a store over. Without FILE it is cds.store in the working folder. `--store FILE` names it as for

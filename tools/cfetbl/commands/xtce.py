@@ -3,7 +3,7 @@
     cfetbl xtce [-o FILE] [--cfe-layout [--big-endian] [--event-ids HEADER]] [--base CONTAINER]
 
 It is written to FILE or to standard output. --cfe-layout takes cFE's default layouts, in which `cfetbl serve --cfe-layout` sends
-its telemetry, and else the layouts are those of docs/FORMATS.md. Of cFE's layouts the numbers in payloads begin with their low
+its telemetry, and else the layouts are those of docs/reference/packets.md. Of cFE's layouts the numbers in payloads begin with their low
 byte, as on most processors; with --big-endian they begin with the high one. --event-ids takes the numbers of events
 from your cfe_tbl_eventids.h.
 
