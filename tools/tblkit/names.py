@@ -72,7 +72,7 @@ def numbers() -> dict[str, str]:
     return {what: spelled for what, spelled, _ in rows_of("constant")}
 
 
-def _with_numbers(text) -> str:
+def with_numbers(text) -> str:
     """A text with the numbers that it names."""
     return re.sub(r"\{(.+?)\}", lambda found: f"{int(numbers()[found[1]], 0):,}", text)
 
@@ -80,14 +80,14 @@ def _with_numbers(text) -> str:
 @functools.cache
 def named(section) -> dict[int, Named]:
     """The statuses, events, commands, messages or run statuses by number."""
-    found = (Named(int(number, 0), _with_numbers(name), *more) for number, name, *more in rows_of(section))
+    found = (Named(int(number, 0), with_numbers(name), *more) for number, name, *more in rows_of(section))
     return {it.number: it for it in found}
 
 
 @functools.cache
 def explained() -> dict[tuple[str, int], tuple[str, ...]]:
     """What each number of a section means, when it comes, and what to do."""
-    return {(section, int(number)): tuple(map(_with_numbers, said)) for section, number, *said in rows_of("explain")}
+    return {(section, int(number)): tuple(map(with_numbers, said)) for section, number, *said in rows_of("explain")}
 
 
 @functools.cache
@@ -123,7 +123,7 @@ class Word:
 def cfe_words() -> tuple[Word, ...]:
     """cFE's words: the return codes, then all others."""
     codes = tuple(Word(code, "status", str(number), "a call returns it") for number, code in return_codes().items())
-    return codes + tuple(Word(name, kind, numbers()[number] if kind == "limit" else number, _with_numbers(said))
+    return codes + tuple(Word(name, kind, numbers()[number] if kind == "limit" else number, with_numbers(said))
                          for name, kind, number, said in rows_of("word"))
 
 

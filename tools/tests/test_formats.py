@@ -1,4 +1,4 @@
-"""check-formats: it passes as things stand, and says where a document or the table of names is another."""
+"""check-formats: it passes as things are, and says where a page or the table of names is another."""
 import os
 import shutil
 import subprocess
@@ -8,47 +8,80 @@ import unittest
 
 from . import recorded
 
+# Where a text is changed, the text, the other one, and what is said then.
 EDITS = (("docs", "ERR_LOAD_IN_PROGRESS", "ERR_LOAD_PROGRESS", "names.tsv has ERR_LOAD_IN_PROGRESS"),
-         ("docs", "`CFE_TBL_ERR_DUMP_ONLY`", "`CFE_TBL_ERR_DUMPONLY`", "names.tsv has the return code CFE_TBL_ERR_DUMP_ONLY"),
-         ("docs", "| RESET_COUNTERS |", "| RESET_COUNTER |", "names.tsv has RESET_COUNTERS"),
-         ("docs", "| 238 | 40 |", "| 238 | 41 |", "names.tsv has table of the last load, 40 bytes"),
-         ("docs", "| 110 | 64 | last file loaded", "| 110 | 64 | last file read", "names.tsv has last file loaded"),
-         ("docs", "handle 2, offset 4, length 4", "handle 2, offset 4, bytes 4", "names.tsv has the body handle 2"),
-         ("tools", "command\t9\tABORT_LOAD\n", "", "names.tsv has no such command"),
-         ("tools", "event\t5\timage went active", "event\t4\timage went active", "names.tsv has no such event"),
-         ("docs", "| an ACTIVATE |", "| a LOAD |", "its section `Index of statuses and events` isn't that of names.tsv"),
-         ("docs", "| 17 | 40 | `LastValTableName`", "| 18 | 40 | `LastValTableName`", "its section `Packets in cFE's layouts` isn't that"),
-         ("docs", "| 52 | 1 | turn byte of the first place", "| 52 | 2 | turn byte of the first place", "names.tsv has turn byte of the first place"),
-         ("docs", "| 4 | 2 | check word |", "| 4 | 4 | check word |", "names.tsv has check word, 2 bytes"),
-         ("docs", "| 5 | 4 | number of entries |", "| 6 | 4 | number of entries |", "end record has no field entries"),
+         ("docs", "`CFE_TBL_ERR_DUMP_ONLY`", "`CFE_TBL_ERR_DUMPONLY`", "its block `statuses` isn't what"),
+         ("docs", "| [RESET_COUNTERS](", "| [RESET_COUNTER](", "its block `commands` isn't what"),
+         ("docs", "| 238 | 40 |", "| 238 | 41 |", "its block `layout housekeeping` isn't what"),
+         ("docs", "| 110 | 64 | last file loaded", "| 110 | 64 | last file read", "its block `layout housekeeping` isn't what"),
+         ("docs", "handle 2, offset 4, length 4", "handle 2, offset 4, bytes 4", "its block `kinds` isn't what"),
+         ("docs", "- comes: an ACTIVATE\n", "- comes: a LOAD\n", "its block `explained status` isn't what"),
+         ("docs", "| 17 | 40 | `LastValTableName`", "| 18 | 40 | `LastValTableName`", "its block `cfe-layout housekeeping` isn't what"),
+         ("docs", "| 52 | 1 | turn byte of the first place", "| 52 | 2 | turn byte of the first place", "its block `layout store entry` isn't what"),
+         ("docs", "| 4 | 2 | check word |", "| 4 | 4 | check word |", "its block `layout block head` isn't what"),
+         ("docs", "| 5 | 4 | entries |", "| 6 | 4 | entries |", "its block `layout end record` isn't what"),
+         ("docs", "| 43 | ACTIVATE needs", "| 44 | ACTIVATE needs", "its block `differences 41 52` isn't what"),
+         ("docs", "1804 C000 0001 00 22", "1804 C000 0001 00 23", "its block `command-bytes` isn't what"),
+         ("docs", "<!-- made: layout notice -->", "", "docs/reference/ has no block `layout notice`"),
+         ("docs", "<!-- made: layout notice -->", "", "docs/reference/packets.md: a block has no beginning or no end"),
+         ("docs", "<!-- made: differences 8 26 -->", "<!-- made: differences 8 25 -->", "docs/reference/ has no difference 26"),
+         ("tools", "command\t9\tABORT_LOAD\n", "", "names.tsv has an answer of ABORT_LOAD, which is no request"),
+         ("tools", "event\t5\timage went active", "event\t4\timage went active", "names.tsv explains the event 5, which is none"),
          ("tools", "explain\tevent\t5\t", "explain\tevent\t9\t", "names.tsv doesn't explain the event 5"),
-         ("tools", "\tERR_IMAGE_SIZE\n", "\tERR_IMAGE_SIZE\nstatus\t89\tERR_ANY\n", "no table with the status 89"))
+         ("tools", "\tERR_IMAGE_SIZE\n", "\tERR_IMAGE_SIZE\nstatus\t89\tERR_ANY\n", "names.tsv doesn't explain the status 89"),
+         ("tools", "answer\tLOAD\t46\t", "answer\tLOAD\t99\t", "names.tsv has an answer 99 of LOAD, which is no status"),
+         ("tools", "difference\t8\t", "difference\t83\t", "differences that don't have the numbers 1, 2, .."),
+         ("tools", "differs\t8\t", "differs\t83\t", "names.tsv has no difference 83, which calls meet"))
+
+
+def files_below(folder):
+    """The pages and tables below a folder."""
+    return [os.path.join(at, name) for at, _, names in os.walk(folder) for name in names if name.endswith((".md", "names.tsv"))]
 
 
 class Formats(unittest.TestCase):
     def outcome(self, folder, wanted, found):
         """What check-formats says of a copy in which a text is another one: its status and its words."""
         with tempfile.TemporaryDirectory() as copy:
-            for name in ("docs", "tools"):
-                shutil.copytree(os.path.join(recorded.TOP, name), os.path.join(copy, name))
-            names = [it for it in os.listdir(os.path.join(copy, folder)) if it.endswith((".md", ".tsv"))]
+            for name in ("docs", "tools", "examples"):
+                shutil.copytree(os.path.join(recorded.TOP, name), os.path.join(copy, name), ignore=shutil.ignore_patterns("__pycache__"))
             is_changed = False
-            for path in (os.path.join(copy, folder, it) for it in names):
+            for path in files_below(os.path.join(copy, folder)):
                 with open(path, encoding="utf-8") as file:
                     text = file.read()
                 is_changed = is_changed or wanted in text
                 with open(path, "w", encoding="utf-8") as file:
                     file.write(text.replace(wanted, found))
-            done = subprocess.run([sys.executable, os.path.join(copy, "tools", "gate", "check-formats")], capture_output=True)
+            done = subprocess.run([sys.executable, os.path.join(copy, "tools", "gate", "check-formats")], capture_output=True, check=False)
         self.assertTrue(is_changed, wanted)
         return done.returncode, done.stderr.decode()
 
-    def test_as_they_stand(self):
+    def test_as_they_are(self):
         self.assertEqual(self.outcome("docs", "SUCCESS", "SUCCESS"), (0, ""))
 
     def test_differences(self):
         for folder, wanted, found, said in EDITS:
             with self.subTest(wanted):
                 status, words = self.outcome(folder, wanted, found)
-                self.assertEqual(status, 1)
+                self.assertEqual(status, 1, words)
                 self.assertIn(said, words)
+
+    def test_what_is_written_is_what_is_checked(self):
+        """A page that is changed is made again, and then nothing is said."""
+        with tempfile.TemporaryDirectory() as copy:
+            for name in ("docs", "tools", "examples"):
+                shutil.copytree(os.path.join(recorded.TOP, name), os.path.join(copy, name), ignore=shutil.ignore_patterns("__pycache__"))
+            path = os.path.join(copy, "docs", "reference", "packets.md")
+            with open(path, encoding="utf-8") as file:
+                text = file.read()
+            with open(path, "w", encoding="utf-8") as file:
+                file.write(text.replace("| 238 | 40 |", "| 238 | 41 |"))
+            tool = os.path.join(copy, "tools", "reference")
+            self.assertEqual([subprocess.run([sys.executable, tool, *words], stderr=subprocess.DEVNULL, check=False).returncode
+                              for words in (["--check"], [], ["--check"], ["--any"])], [1, 0, 0, 2])
+            with open(path, encoding="utf-8") as file:
+                self.assertEqual(file.read(), text)
+
+
+if __name__ == "__main__":
+    unittest.main()

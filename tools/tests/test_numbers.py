@@ -42,7 +42,7 @@ EDITS = (
     ("tools/names.tsv", "field\tregistry\t18\t1\tstate", "field\tregistry\t18\t2\tstate", "registry, registry_record of tbl_kinds"),
     ("tools/tblkit/records.py", 'layouts.number("records of a session")', "32768", "tools/tblkit/records.py"),
     ("tools/cfetbl.lua", 'number_of(messages, "command")', "0x1804", "tools/cfetbl.lua"),
-    ("docs/FORMATS.md", "| handles | 256,", "| handles | 255,", "docs/FORMATS.md, handles"))
+    ("docs/reference/tables-of-numbers.md", "| handles | 256,", "| handles | 255,", "docs/reference/tables-of-numbers.md, handles"))
 
 
 class Numbers(unittest.TestCase):
