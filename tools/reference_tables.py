@@ -8,6 +8,7 @@ import re
 from collections.abc import Callable, Iterator
 
 import spelled_bytes
+from markdown_links import anchor_of
 from tblkit import cfe, cfe_events, dictionary, names, packets, records
 
 TOP = os.path.dirname(os.path.dirname(os.path.realpath(__file__)))
@@ -31,11 +32,6 @@ def table(head, rows) -> str:
     return "\n".join([f"| {' | '.join(first)} |", f"|{'|'.join(rule)}|", *(f"| {' | '.join(it)} |" for it in others)])
 
 
-def anchor(heading) -> str:
-    """The anchor of a heading, as GitHub and MyST make it."""
-    return re.sub(r"[^\w\- ]", "", heading.lower()).replace(" ", "-")
-
-
 # ---- links
 
 def name_of(section, number) -> str:
@@ -56,14 +52,14 @@ def link_of(section, number) -> str:
     if section == "command":
         return request_link(name)
     if section == "message":
-        return f"[{name}]({'packets.md#' + anchor(name) if name in dictionary.TELEMETRY else 'commands.md#form'})"
-    return f"[{number} {name}](statuses.md#{anchor(heading_of(section, number))})"
+        return f"[{name}]({'packets.md#' + anchor_of(name) if name in dictionary.TELEMETRY else 'commands.md#form'})"
+    return f"[{number} {name}](statuses.md#{anchor_of(heading_of(section, number))})"
 
 
 def request_link(name) -> str:
     """A link to the answers of a request or a command."""
     calls = {it.name for it in names.requests().values() if not it.is_ground}
-    return f"[{name}]({'calls' if name in calls else 'commands'}.md#{anchor(name)})"
+    return f"[{name}]({'calls' if name in calls else 'commands'}.md#{anchor_of(name)})"
 
 
 def code(name) -> str:
@@ -109,10 +105,9 @@ def answered_by(number) -> str:
 
 
 def made_statuses() -> str:
-    rows = [(number, f"[{it.name}](#{anchor(heading_of('status', number))})", code(names.return_codes().get(number)),
-             ", ".join(code(name) for name in names.in_cfe("status", number) if name != names.return_codes().get(number)), it.detail)
+    rows = [(number, f"[{it.name}](#{anchor_of(heading_of('status', number))})", code(names.return_codes().get(number)), it.detail)
             for number, it in names.named("status").items()]
-    return table(("no.", "name", "return code of cFE", "event of cFE", "detail"), rows)
+    return table(("no.", "name", "return code of cFE", "detail"), rows)
 
 
 def made_explained(section) -> str:
