@@ -3,6 +3,7 @@
 # make install       installs them with their tools, headers, manual page, completion, documents and examples; PREFIX= is /usr/local
 # make uninstall     takes the same files away
 # make package       makes a Debian package and a tarball of them, in out/package
+# make html          makes a site of the documents with a search field, in out/html (by Debian's python3-sphinx and python3-myst-parser)
 # make release       makes both and their checksums in out/release, of what is proved and committed
 # make test          the tests: ./cfetbl test
 #
@@ -24,7 +25,10 @@ install uninstall:
 package release:
 	tools/$@
 
+html:
+	tools/site
+
 test:
 	./cfetbl test
 
-.PHONY: all install uninstall package release test
+.PHONY: all install uninstall html package release test

@@ -15,7 +15,7 @@ FRONT = f"{TOP}/cfetbl"
 # The words that find or build a program, and the checks of what doesn't need one.
 PROGRAMS = ("play", "serve", "resets")
 OF_SOURCES = (["tools/gate/claims", "--check"], ["tools/gate/measures"], ["tools/gate/believed", "--check"], ["tools/gate/check-labels"],
-              ["tools/gate/check-formats"], ["tools/gate/check-types"], ["tools/gate/check-numbers"])
+              ["tools/gate/check-formats"], ["tools/gate/check-links"], ["tools/gate/check-types"], ["tools/gate/check-numbers"])
 # The parts of tools/gate/check-cfetbl and of the tests of the tools that are tried at once.
 OF_THE_COMMAND = ("words lists sessions crews kinds tools ends terminals", "stores places made_files looks watches drills", "resets documents",
                   "builds gate slow manual")
