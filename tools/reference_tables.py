@@ -119,7 +119,7 @@ def _explained(section, number) -> Iterator[str]:
     known = names.named(section)[number]
     means, comes, to_do = names.explained().get((section, number), ("", "", ""))
     yield f"### {heading_of(section, number)}\n\n{means[:1].upper()}{means[1:]}.\n"
-    told = [("comes", comes), ("to do", to_do), ("detail", known.detail), ("in cFE", of_cfe(section, number)),
+    told = [("when", comes), ("to do", to_do), ("detail", known.detail), ("in cFE", of_cfe(section, number)),
             ("answers", answered_by(number) if section == "status" and number else "")]
     yield from (f"- {head}: {said}" for head, said in told if said)
 

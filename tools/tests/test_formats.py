@@ -15,7 +15,7 @@ EDITS = (("docs", "ERR_LOAD_IN_PROGRESS", "ERR_LOAD_PROGRESS", "names.tsv has ER
          ("docs", "| 238 | 40 |", "| 238 | 41 |", "its block `layout housekeeping` isn't what"),
          ("docs", "| 110 | 64 | last file loaded", "| 110 | 64 | last file read", "its block `layout housekeeping` isn't what"),
          ("docs", "handle 2, offset 4, length 4", "handle 2, offset 4, bytes 4", "its block `kinds` isn't what"),
-         ("docs", "- comes: an ACTIVATE\n", "- comes: a LOAD\n", "its block `explained status` isn't what"),
+         ("docs", "- when: an ACTIVATE\n", "- when: a LOAD\n", "its block `explained status` isn't what"),
          ("docs", "| 17 | 40 | `LastValTableName`", "| 18 | 40 | `LastValTableName`", "its block `cfe-layout housekeeping` isn't what"),
          ("docs", "| 52 | 1 | turn byte of the first place", "| 52 | 2 | turn byte of the first place", "its block `layout store entry` isn't what"),
          ("docs", "| 4 | 2 | check word |", "| 4 | 4 | check word |", "its block `layout block head` isn't what"),
