@@ -16,8 +16,8 @@ FOLDER = os.path.join(TOP, "docs", "reference")
 BLOCK = re.compile(r"^<!-- made: (?P<name>[a-z-]+)(?P<words>[^\n]*?) -->\n(?P<made>.*?)^<!-- made end -->$", re.MULTILINE | re.DOTALL)
 # What answers are of, besides requests: what is tested of several, and what is a part of a request.
 SEVERAL, PARTS = ("any command", "any call", "any call by a handle"), ("a table file", "a critical table")
-LAYOUTS = ("record head", "entry", "end record", "command header", "telemetry header", "event", "housekeeping", "registry", "notice",
-           "file header", "table file header", "store entry", "block head")
+LAYOUTS = ("record head", "entry", "end record", "primary header", "command header", "telemetry header", "event", "housekeeping", "registry", "notice",
+           "file header", "table file header", "bank", "store entry", "block head")
 # What the sections of names.tsv that are explained are called in headings.
 SECTIONS = {"status": "", "event": "Event ", "run": "Run "}
 KINDS = {"Return codes": ("status", "also"), "Events": ("event",), "Command codes and message ids": ("command", "message"),
@@ -184,7 +184,7 @@ def made_messages() -> str:
 
 
 def _width(field) -> str:
-    return str(field.width) if field.width else "the rest"
+    return f"{field.width:,}" if field.width else "the rest"
 
 
 def _noted(owner, name) -> str:
@@ -215,7 +215,7 @@ def made_layout(*owner) -> str:
     """The fields of a layout by their places."""
     owner = " ".join(owner)
     in_cfe = _cfe_fields(owner)
-    rows = [(it.place, _width(it), it.name, _said(owner, it), in_cfe.get(it.name, "")) for it in names.fields(owner)]
+    rows = [(f"{it.place:,}", _width(it), it.name, _said(owner, it), in_cfe.get(it.name, "")) for it in names.fields(owner)]
     return table(("place", "bytes", "field", "what it has", "cFE's field"), rows)
 
 
@@ -268,7 +268,8 @@ MAKERS: dict[str, Callable[..., str]] = {
     "answers": made_answers, "statuses": made_statuses, "explained": made_explained, "limits": made_limits, "codes": made_codes, "bits": made_bits,
     "kinds": made_kinds, "bodies": made_bodies, "commands": made_commands, "messages": made_messages, "layout": made_layout,
     "cfe-layout": made_cfe_layout, "cfe-events": made_cfe_events, "differences": made_differences, "index": made_index,
-    "command-bytes": made_command_bytes, "session": spelled_bytes.of_session, "transcript": spelled_bytes.of_transcript}
+    "command-bytes": made_command_bytes, "session": spelled_bytes.of_session, "transcript": spelled_bytes.of_transcript,
+    "line": spelled_bytes.of_line}
 
 
 def made(name, words) -> str:

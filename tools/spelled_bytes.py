@@ -48,6 +48,12 @@ def of_command(line) -> str:
     return of_packet(text.record_of(line)[records.HEAD:])
 
 
+def of_line(*words) -> str:
+    """The record of a line of a session, below the line."""
+    line = " ".join(words)
+    return "\n".join([f"    # {line}", *wrapped(of_record(records.Piece(0, text.record_of(line))))])
+
+
 def of_file(content) -> str:
     """A file: as a table file if it has the headers of one."""
     if len(content) < layouts.end_of("table file header"):

@@ -40,6 +40,7 @@ EDITS = (
     ("include/cfetbl_status.h", "CFETBL_ERR_BAD_APP = 32", "CFETBL_ERR_BAD_APP = 33", "CFETBL_ERR_BAD_APP in C"),
     ("tools/names.tsv", "\tbytes of preserved memory\t262144\t", "\tbytes of preserved memory\t262145\t", "BANK_SIZE of command_line"),
     ("tools/names.tsv", "field\tregistry\t18\t1\tstate", "field\tregistry\t18\t2\tstate", "registry, registry_record of tbl_kinds"),
+    ("tools/names.tsv", "field\tbank\t139280\t", "field\tbank\t139281\t", "places of the bank"),
     ("tools/tblkit/records.py", 'layouts.number("records of a session")', "32768", "tools/tblkit/records.py"),
     ("tools/cfetbl.lua", 'number_of(messages, "command")', "0x1804", "tools/cfetbl.lua"),
     ("docs/reference/tables-of-numbers.md", "| handles | 256,", "| handles | 255,", "docs/reference/tables-of-numbers.md, handles"))
