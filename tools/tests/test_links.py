@@ -1,10 +1,15 @@
 """check-links: it passes over pages whose links lead somewhere, and names each that doesn't, in Markdown and in a site."""
+import contextlib
+import importlib.machinery
+import importlib.util
+import io
 import os
 import shutil
 import subprocess
 import sys
 import tempfile
 import unittest
+from unittest import mock
 
 import markdown_links as markdown
 
@@ -139,6 +144,16 @@ class Site(unittest.TestCase):
             status, said = self.made(tool)
             self.assertEqual(status, 1)
             self.assertIn("three", said)
+
+    def test_without_a_generator(self):
+        loader = importlib.machinery.SourceFileLoader("site_of_docs", os.path.join(recorded.TOP, "tools", "site"))
+        tool = importlib.util.module_from_spec(importlib.util.spec_from_loader(loader.name, loader))
+        loader.exec_module(tool)
+        with mock.patch.object(tool, "PYTHONS", ("/bin/false", "/no/such/python")), contextlib.redirect_stderr(io.StringIO()) as said:
+            self.assertEqual((tool.main(["--there"]), said.getvalue()), (3, ""))
+            self.assertEqual(tool.main([]), 3)
+            self.assertEqual(said.getvalue(), "site: there is no Sphinx with MyST (Debian's python3-sphinx and python3-myst-parser)\n")
+            self.assertEqual(tool.main(["--any"]), 2)
 
     @staticmethod
     def made(tool):
