@@ -16,7 +16,7 @@ import markdown_links as markdown
 from . import recorded
 
 TOOL = os.path.join("tools", "gate", "check-links")
-OTHER = "9.8.7"
+NUMBER = "9.8.7"
 PAGE = """# A page
 
 [a file](docs/other.md), [its heading](docs/other.md#two-words), [again](docs/other.md#two-words-1), [here](#a-page), [a folder](docs),
@@ -122,7 +122,7 @@ class Site(unittest.TestCase):
             if subprocess.run([sys.executable, tool, "--there"], check=False).returncode:
                 self.skipTest("there is no Sphinx with MyST")
             with open(os.path.join(top, "cfetbl"), "w", encoding="utf-8") as file:
-                file.write(f"#!/bin/sh\necho cfetbl {OTHER}\n")
+                file.write(f"#!/bin/sh\necho cfetbl {NUMBER}\n")
             os.chmod(os.path.join(top, "cfetbl"), 0o755)
             os.makedirs(os.path.join(top, "docs", "reference"))
             pages = {"README.md": "# First\n\n[b](docs/reference/b.md#two), [tools](tools)\n", "docs/README.md": "# Index\n\n[first](../README.md)\n",
@@ -135,7 +135,7 @@ class Site(unittest.TestCase):
             with open(os.path.join(folder, "index.html"), encoding="utf-8") as file:
                 first = file.read()
             self.assertIn('href="docs/reference/b.html#two"', first)
-            self.assertIn(f"cfetbl {OTHER}", first)
+            self.assertIn(f"cfetbl {NUMBER}", first)
             self.assertNotIn('href="tools"', first)
             with open(os.path.join(folder, "searchindex.js"), encoding="utf-8") as file:
                 self.assertIn("uncommonword", file.read())
