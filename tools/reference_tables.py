@@ -245,14 +245,17 @@ def _here(word) -> str:
     return f"{word.section} {link_of(word.section, int(word.number, 0))}" if word.section else ""
 
 
+def in_index(word, kind) -> bool:
+    """Whether one of cFE's words is in the index of this kind: the ids of events have one of their own, whatever they are here."""
+    is_refusal = word.kind in ("status", "also")
+    if is_refusal and word.name.endswith("_EID"):
+        return kind == "Events"
+    return word.kind in KINDS[kind]
+
+
 def made_index(*kind) -> str:
     """cFE's words of a kind, in the order of the alphabet."""
-    wanted = KINDS[" ".join(kind)]
-    found = [it for it in names.cfe_words() if it.kind in wanted]
-    if "event" in wanted:
-        found += [it for it in names.cfe_words() if it.kind == "status" and it.name.endswith("_EID")]
-    elif "status" in wanted:
-        found = [it for it in found if not it.name.endswith("_EID")]
+    found = [it for it in names.cfe_words() if in_index(it, " ".join(kind))]
     rows = [(code(it.name), _here(it), it.said) for it in sorted(found, key=lambda it: it.name)]
     return table(("cFE's name", "here", "what there is to say"), rows)
 

@@ -1,10 +1,13 @@
 """check-formats: it passes as things are, and says where a page or the table of names is another."""
 import os
+import re
 import shutil
 import subprocess
 import sys
 import tempfile
 import unittest
+
+from tblkit import names
 
 from . import recorded
 
@@ -34,6 +37,12 @@ EDITS = (("docs", "ERR_LOAD_IN_PROGRESS", "ERR_LOAD_PROGRESS", "names.tsv has ER
          ("tools", "differs\t8\t", "differs\t83\t", "names.tsv has no difference 83, which calls meet"))
 
 
+def copied_to(folder):
+    """Copies what the check reads."""
+    for part in ("docs", "tools", "examples"):
+        shutil.copytree(os.path.join(recorded.TOP, part), os.path.join(folder, part), ignore=shutil.ignore_patterns("__pycache__"))
+
+
 def files_below(folder):
     """The pages and tables below a folder."""
     return [os.path.join(at, name) for at, _, names in os.walk(folder) for name in names if name.endswith((".md", "names.tsv"))]
@@ -43,8 +52,7 @@ class Formats(unittest.TestCase):
     def outcome(self, folder, wanted, found):
         """What check-formats says of a copy in which a text is another one: its status and its words."""
         with tempfile.TemporaryDirectory() as copy:
-            for name in ("docs", "tools", "examples"):
-                shutil.copytree(os.path.join(recorded.TOP, name), os.path.join(copy, name), ignore=shutil.ignore_patterns("__pycache__"))
+            copied_to(copy)
             is_changed = False
             for path in files_below(os.path.join(copy, folder)):
                 with open(path, encoding="utf-8") as file:
@@ -66,11 +74,15 @@ class Formats(unittest.TestCase):
                 self.assertEqual(status, 1, words)
                 self.assertIn(said, words)
 
+    def test_each_word_of_cfe_is_in_the_index_once(self):
+        with open(os.path.join(recorded.TOP, "docs", "reference", "cfe-names.md"), encoding="utf-8") as file:
+            rows = re.findall(r"^\| `(CFE_\w+)` \|", file.read(), re.MULTILINE)
+        self.assertEqual(sorted(rows), sorted(it.name for it in names.cfe_words()))
+
     def test_what_is_written_is_what_is_checked(self):
         """A page that is changed is made again, and then nothing is said."""
         with tempfile.TemporaryDirectory() as copy:
-            for name in ("docs", "tools", "examples"):
-                shutil.copytree(os.path.join(recorded.TOP, name), os.path.join(copy, name), ignore=shutil.ignore_patterns("__pycache__"))
+            copied_to(copy)
             path = os.path.join(copy, "docs", "reference", "packets.md")
             with open(path, encoding="utf-8") as file:
                 text = file.read()
