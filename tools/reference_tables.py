@@ -3,6 +3,7 @@
 In a page a block begins with a line `<!-- made: NAME WORDS -->` and ends with `<!-- made end -->`. What is between them is what the
 maker of this name returns for these words. tools/reference writes the blocks, and tools/gate/check-formats says whether they are these.
 """
+import functools
 import os
 import re
 from collections.abc import Callable, Iterator
@@ -72,12 +73,14 @@ def of_cfe(section, number) -> str:
 
 # ---- statuses, events and ends of a run
 
+@functools.cache
 def answers_of(owner) -> list[tuple[str, str, str]]:
     """The rows of what a request is answered: statuses, when they come, and what their detail or reply has."""
     found = [(statuses, *map(names.with_numbers, (*said, "")[:2])) for of, statuses, *said in names.rows_of("answer") if of == owner]
     return [(statuses, when, gives) for statuses, when, gives in found]
 
 
+@functools.cache
 def numbers_in(statuses) -> set[int]:
     """The statuses of a row `answer`, which are named as `47 to 52, 87`."""
     found = set()
@@ -87,6 +90,7 @@ def numbers_in(statuses) -> set[int]:
     return found & set(names.named("status"))
 
 
+@functools.cache
 def answered_owners() -> list[str]:
     return list(dict.fromkeys(of for of, *_ in names.rows_of("answer")))
 
@@ -187,9 +191,14 @@ def _width(field) -> str:
     return f"{field.width:,}" if field.width else "the rest"
 
 
+@functools.cache
+def _notes() -> dict[tuple[str, str], str]:
+    return {(owner, part): names.with_numbers(said) for owner, part, said in names.rows_of("note")}
+
+
 def _noted(owner, name) -> str:
     """What is noted of a part of something."""
-    return "; ".join(names.with_numbers(said) for of, part, said in names.rows_of("note") if (of, part) == (owner, name))
+    return _notes().get((owner, name), "")
 
 
 def _said(owner, field) -> str:
