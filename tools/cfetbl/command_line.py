@@ -77,7 +77,7 @@ def refuse(reason: str) -> NoReturn:
 def refuse_word(word: str, is_first: bool = True) -> NoReturn:
     """Ends for a word that isn't known."""
     if is_first and os.path.isfile(word):
-        refuse(f"{word} is a file, and no word: `cfetbl play --show {word}` plays it if it is a session")
+        refuse(f"{word} is a file, not a word: `cfetbl play --show {word}` plays it if it is a session")
     refuse(f"{word} isn't known{meant(word, WORDS)}")
 
 

@@ -312,7 +312,7 @@ These applications of cFE make the calls of {sessions}, {calls} in all, and writ
 3. Put the lines of cfe_es_startup.lines into sample_defs/cpu1_cfe_es_startup.scr, before the line that begins with !
 4. Build: make SIMULATION=native prep && make && make install
 5. Run: cd build/exe/cpu1 && rm -f cf/cfetbl_calls.at && ./core-cpu1 -R PO
-{again}6. End it by Ctrl-C once calls.log ends with `log end`, which takes about {seconds} s. It stands in build/exe/cpu1.
+{again}6. End it by Ctrl-C once calls.log ends with `log end`, which takes about {seconds} s. It is in build/exe/cpu1.
 7. Compare: cfetbl compare --expect known /dev/null calls.log
    and send back what that says, calls.log, the version of your cFE, and what you have changed in its configuration of tables.
 

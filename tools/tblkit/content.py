@@ -18,7 +18,7 @@ class Kind(enum.Enum):
     TRANSCRIPT = "a transcript", "`cfetbl show SESSION {0}` prints it"
     STORE = "a store file", "`cfetbl map {0}` shows its blocks"
     TABLE_FILE = "a table file", "the line `file NAME from {0}` of a session uplinks it"
-    REGISTRY_FILE = "a registry file", "`--show` prints its fields beside the DUMP_REGISTRY that wrote it"
+    REGISTRY_FILE = "a registry file", "`--show` prints its fields with the DUMP_REGISTRY that wrote it"
     CAPTURE = "a capture", "Wireshark opens it, with cfetbl.lua"
     WIDE_TEXT = "text in UTF-16", "it can be read once it is stored in UTF-8"
     OTHER = "neither text nor records", "it begins with {1}"

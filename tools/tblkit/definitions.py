@@ -16,7 +16,7 @@ def add_arguments(parser) -> None:
 def write(chosen, parser, made_of) -> int:
     """Writes the definition that is made of the commands and packets in the layout that the words name."""
     if (chosen.big_endian or chosen.event_ids) and not chosen.cfe_layout:
-        parser.error(f"{'--big-endian' if chosen.big_endian else '--event-ids'} is of --cfe-layout")
+        parser.error(f"{'--big-endian' if chosen.big_endian else '--event-ids'} needs --cfe-layout")
     try:
         numbers = cfe_events.numbers_of(chosen.event_ids)
     except cfe_events.WrongHeader as wrong:

@@ -116,7 +116,7 @@ def _fault(field, kind, offset, size, earlier) -> str:
     if not 1 <= size <= MOST:
         return f"its size is {size}"
     if offset < BLOCKS or offset + HEAD + size > BLOCKS_END:
-        return f"its block would stand at {offset}"
+        return f"its block would be at {offset}"
     if not names.is_name(name) or field[len(name):].strip(b"\0"):
         return "its name field doesn't read as a name"
     for other in earlier:

@@ -56,7 +56,7 @@ def parts(stream) -> Iterator[Entry | Broken | End]:
             yield End(*END_OF.unpack(head)[1:])
             further = stream.read(ENTRY_HEAD)
             if further:
-                yield Broken("bytes stand after the end record", further)
+                yield Broken("there are bytes after the end record", further)
             return
         try:
             reply, sent = _counted(stream, head), _counted(stream, head)

@@ -45,7 +45,7 @@ LINES = """\
 0 reset 1
 1 load 0 01020304
 """
-# What docs/GUIDE.md says of these states, under 'See what each call answers in each state'.
+# What docs/use/states.md says of these states.
 ANSWERS = {
     ("one buffer, never loaded", "Get"): {60}, ("one buffer, never loaded", "Release"): {61}, ("one buffer, never loaded", "LoadImage"): {0},
     ("one buffer, loaded, address held", "LoadImage"): {9}, ("one buffer, loaded, address held", "Get"): {0, 1, 59},

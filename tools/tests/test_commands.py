@@ -190,7 +190,7 @@ class Explain(unittest.TestCase):
 status 66 ERR_NOT_VALIDATED
   in cFE: CFE_TBL_UNVALIDATED_ERR_EID
   means: the load wasn't validated since it last changed
-  comes: an ACTIVATE
+  when: an ACTIVATE
   to do: send VALIDATE of the inactive image, have the owner finish it by Validate or Manage with
          verdict 0, and send ACTIVATE again; a further LOAD takes the mark away
 """
@@ -239,7 +239,7 @@ status 66 ERR_NOT_VALIDATED
         self.assertIn(b"in cFE: CFE_TBL_ERR_PARTIAL_LOAD, CFE_TBL_PARTIAL_LOAD_ERR_EID", call("explain", "54")[1])
 
     def test_what_is_not_known(self):
-        for words, said in ((["99"], "is called 99; without a word it tells the numbers and names of all"),
+        for words, said in ((["99"], "is called 99; without a word it lists the numbers and names of all"),
                             (["NOTVALIDATED"], "is called NOTVALIDATED; did you mean ERR_NOT_VALIDATED?"),
                             (["CFE_TBL_ERR_NEVR_LOADED"], "; did you mean CFE_TBL_ERR_NEVER_LOADED or"),
                             (["event", "4"], "is called 4; ")):

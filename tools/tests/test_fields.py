@@ -250,7 +250,7 @@ class WrongInput(compiled.InFolder):
         ("Point[0].Low=8", "Point[0].Low: 8 is out of range: expected a number from 0 to 7, of the type uint32 in 3 bits"),
         ("Point[0].Signed=16", "Point[0].Signed: 16 is out of range: expected a number from -16 to 15, of the type int32 in 5 bits"),
         ("Choice[0].Value=1", "Choice[0].Value: it is set by 4 bytes in hexadecimal, which are 8 digits, or a member by --member"),
-        ('Point[0].Name="\\q"', "Point[0].Name: between quotes, a quote or backslash stands after a backslash, and \\xNN is a byte"),
+        ('Point[0].Name="\\q"', "Point[0].Name: between quotes, a quote or backslash needs a backslash before it, and \\xNN is a byte"),
     )
 
     def refused(self, wanted, *words, given=b""):

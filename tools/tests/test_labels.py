@@ -22,7 +22,7 @@ EDITS = (("include/tbl.h", "/* SPDX-License-Identifier: Apache-2.0 */\n", "", "i
          ("man/cfetbl.1", "cfetbl {}", f"cfetbl {OTHER}", f"man/cfetbl.1 names the version {OTHER}"),
          ("include/cfetbl_version.h", '_VERSION "{}"', f'_VERSION "{OTHER}"', "include/cfetbl_version.h has another version"),
          ("lib/cfetbl.pc.in", "Version: @VERSION@", f"Version: {OTHER}", f"lib/cfetbl.pc.in names the version {OTHER}"),
-         ("docs/GUIDE.md", "# Guide", f"# Guide to cfetbl_{OTHER}", f"docs/GUIDE.md names the version {OTHER}"),
+         ("docs/use/tutorial.md", "# Tutorial", f"# Tutorial of cfetbl_{OTHER}", f"docs/use/tutorial.md names the version {OTHER}"),
          ("crates/tbl_main/src/main.rt", "tbl {}\\n", f"tbl {OTHER}\\n",
           f"man/cfetbl.1 names the version {{}}, and crates/tbl_main/src/main.rt has {OTHER}"),
          ("crates/tbl_main/src/main.rt", "tbl {}\\n", "tbl 2\\n", "the version is 2, which isn't three numbers"))

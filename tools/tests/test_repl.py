@@ -105,8 +105,8 @@ class Typed(unittest.TestCase):
         status, written, said = self.typed(b"ground NOPE\n:nothing\nground NOOP\n")
         self.assertEqual((status, written.count("\n"), said.splitlines()[0]),
                          (2, 3, "<stdin>:1:8: expected a command, or packet, found NOPE; did you mean NOOP?"))
-        self.assertIn(":nothing is no such line; `help` has those", said)
-        self.assertIn(":sav is no such line; did you mean :save?", self.typed(b":sav\n")[2])
+        self.assertIn("there is no line :nothing; `help` lists them", said)
+        self.assertIn("there is no line :sav; did you mean :save?", self.typed(b":sav\n")[2])
 
     def test_bytes(self):
         """Records in pieces, and what is no record."""
@@ -156,8 +156,8 @@ class Completion(unittest.TestCase):
         """It greets in a line, the tab key completes, and the answer comes as soon as a line is typed."""
         with tempfile.TemporaryDirectory() as folder:
             seen = self.talk(folder, (b"", b"> "), (b"app 1 sta\tA\n", b"0 app 1 start A -> 0 SUCCESS\r\n> "), (b"\x04", b"end: status 0"))
-            with open(os.path.join(recorded.TOP, "docs", "GUIDE.md"), encoding="utf-8") as guide:
-                greeting = next(line.strip() for line in guide if line.startswith("    cfetbl repl: "))
+            with open(os.path.join(recorded.TOP, "docs", "use", "tutorial.md"), encoding="utf-8") as page:
+                greeting = next(line.strip() for line in page if line.startswith("    cfetbl repl: "))
             self.assertIn(greeting.replace("/tmp/", f"{os.path.realpath(folder)}/") + "\n", seen)
 
     def test_a_file_that_is_there(self):

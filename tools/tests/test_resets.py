@@ -1,4 +1,4 @@
-"""`cfetbl resets`: the table of docs/GUIDE.md as it comes and as a page, and how far it is."""
+"""`cfetbl resets`: the table of a session as it is written and as a page, and how far it is."""
 import fcntl
 import os
 import re
@@ -10,15 +10,13 @@ from tblkit import resets
 from . import recorded
 from .test_commands import COMMAND, TOOLS, call, in_terminal
 
-TABLE = "    $ ./cfetbl resets modes.txt\n"
 ELEMENT = re.compile(r'data-write="(\d+)" data-table="(\S+)" data-from="(\d+)" data-to="(\d+)" data-back="([^"]*)"')
 
 
 def shown():
-    """The lines that docs/GUIDE.md shows."""
-    with open(os.path.join(recorded.TOP, "docs", "GUIDE.md"), encoding="utf-8") as guide:
-        after = guide.read().split(TABLE)[1]
-    return [line[4:] for line in after.split("\n\nA line is")[0].split("\n")]
+    """The lines of the session of docs/use/store-and-resets.md, whole."""
+    with open(os.path.join(recorded.TOP, "tools", "tests", "shown", "resets"), encoding="utf-8") as file:
+        return file.read().splitlines()
 
 
 class Resets(unittest.TestCase):

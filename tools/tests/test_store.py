@@ -105,7 +105,7 @@ class Store(unittest.TestCase):
     def test_entries_that_dont_count(self):
         whys = {"A50100000000201400000004412E55": "its block has bytes in common with that of slot 0",
                 "A50100000000201C00000004412E54": "slot 0 has its kind and name", "A50100000000201C00004001412E55": "its size is 16385",
-                "A50300000000201C00000004412E55": "its kind is 3", "A50100000000200000000004412E55": "its block would stand at 8192",
+                "A50300000000201C00000004412E55": "its kind is 3", "A50100000000200000000004412E55": "its block would be at 8192",
                 "A50100000000201C00000004410055": "its name field doesn't read as a name"}
         for entry, why in whys.items():
             self.assertEqual(told(bank_of(BANK | {80: entry}))[1],

@@ -47,7 +47,7 @@ class NotKnown(unittest.TestCase):
 
     def test_a_file_in_the_place_of_a_word(self):
         status, _, said = front(FRONT)
-        self.assertEqual((status, said), (2, f"cfetbl: {FRONT} is a file, and no word: `cfetbl play --show {FRONT}` plays it if it is a "
+        self.assertEqual((status, said), (2, f"cfetbl: {FRONT} is a file, not a word: `cfetbl play --show {FRONT}` plays it if it is a "
                                              "session (see cfetbl --help)\n"))
 
     def test_a_shape_of_an_unknown_table(self):

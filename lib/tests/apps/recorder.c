@@ -20,7 +20,7 @@ uint8_t __wrap_tbl_step(struct tbl_handle *handle, const uint8_t *record, size_t
 static int sessions;
 static bool is_written;
 
-/* The verdict of the program's function of a number (docs/GUIDE.md): the even ones look at the first byte, and the odd ones at the last. */
+/* The verdict of the program's function of a number (docs/use/sessions.md): the even ones look at the first byte, and the odd ones at the last. */
 static int32_t verdict_of_program(uint8_t number, const uint8_t *image, size_t length)
 {
     uint8_t all = 0;

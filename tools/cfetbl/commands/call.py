@@ -1,12 +1,12 @@
-"""Calls a service that runs: plays lines of session text at it, and prints their answers.
+"""Calls a service that is running: plays lines of session text at it, and prints their answers.
 
     cfetbl call SOCKET [LINE..]
 
-SOCKET is the path that `cfetbl serve --socket` was given. Each LINE is one of session text, in quotes; without a LINE the lines of
-standard input are taken, one after the other, as they come. `cfetbl text --help` has their forms.
+SOCKET is the path that `cfetbl serve --socket` was given. Each LINE is one of session text, in quotes; without a LINE, the lines of
+standard input are sent, one after the other. `cfetbl text --help` has their forms.
 
-Exit status: 0 where each line was answered, whatever the service said of it; 1 where a line is none that can be played; 2 for wrong
-use, or where nobody serves at the path; 4 where a write fails; 5 where the service ended before it had answered.
+Exit status: 0 if each line was answered, whatever the service said of it; 1 if a line can't be played; 2 for wrong use, or if
+nobody serves at the path; 4 if a write fails; 5 if the service ended before it had answered.
 """
 import re
 import socket

@@ -6,12 +6,12 @@ Each SESSION is text or records. DIR gets sources in C, CMakeLists.txt, lines fo
 what to do with them in a tree of cFS. On cFE the applications make the calls of the sessions, one after the other, each its own. They
 send the commands over the Software Bus, write the files, and record all in calls.log, which `cfetbl compare` compares.
 
-Requests that cFE can't be asked for are left out, and each is told with its line and the reason; DIR/left-out.txt has them too. A read
-isn't told: a get records all bytes at the address. Files have names of cFE's file system there, as /ram/f1. A session begins with what
-those before it have left, but for its tables, which are given back.
+Requests that cFE can't be asked for are left out, and each is listed with its line and the reason; DIR/left-out.txt has them too.
+A read isn't listed: a get records all bytes at the address. Files have names of cFE's file system there, as /ram/f1. A session begins
+with what those before it have left, except their tables, which are given back.
 
-  -o DIR    the folder that is written, also if it is there
-  --cover   adds sessions in which each call is made in each state of a table that can be reached, as `cfetbl states --cover` tells them:
+  -o DIR    the folder that is written, even if it is there
+  --cover   adds sessions that make each call in each state of a table that can be reached, as `cfetbl states --cover` shows them:
             some 6,000 requests, which take about ten minutes in cFE
 
 Exit status: 0; 2 for wrong use, or if a session can't be read or is none; 4 if a write fails; 125 without a program.

@@ -1,8 +1,8 @@
-"""An application's calls on another implementation, beside what they are answered here.
+"""An application's calls on another implementation, compared with what they are answered here.
 
     cfetbl compare [--expect known] SESSION LOG
 
-SESSION is a session, as text or records, with what came before the calls: files that were uplinked, the time, applications that
+SESSION is a session, as text or records, with what was done before the calls: files that were uplinked, the time, applications that
 started; /dev/null is none. LOG has the calls in their order, a line each, with what cFE's functions take and return:
 
     app 1 CFE_TBL_Register LIMITS 4 0x0000 none -> CFE_SUCCESS handle 0
@@ -11,24 +11,24 @@ started; /dev/null is none. LOG has the calls in their order, a line each, with 
     ground LOAD /new
     app 1 CFE_TBL_Update 0 -> CFE_TBL_INFO_TABLE_LOCKED
 
-tools/record has a recorder in C that writes such a log beside an application of cFE, and `cfetbl cfe-app` makes an application that
+tools/record has a recorder in C that writes such a log for an application of cFE, and `cfetbl cfe-app` makes an application that
 makes the calls of sessions. A line without a return code is one of session text, as a test writes it if it sends a command, but for
 
     app 1 verdict LIMITS -5        what the table's validation function said inside the application's next call
     app 1 wrote 0 0A0B0C0D         what the application wrote through the address of a handle: the whole table as it is by then
     log 2, log end                 the first line of a recorder's log, and the last one
 
-Both are played here, over an empty store. Compared are the return codes, the bytes at an address and of a block, and what GetInfo
-tells. The first call that is answered otherwise here is told with the state in which it was made, and with the known difference that
-it is, if it is one: a row of docs/reference/cfe.md, by its number. With --expect known those are passed over and counted. If a table is in
+Both are played here, over an empty store. Compared are the return codes, the bytes at an address and of a block, and the size and
+options of GetInfo. The first call that is answered differently here is shown with the state in which it was made, and with the known
+difference that it is, if it is one: a row of docs/reference/cfe.md, by its number. With --expect known those are passed over and counted. If a table is in
 another state there after a known difference, further calls of it aren't compared, and are counted too.
 
-A handle of the log stands for the one here that the same registration gave. A validation function gives the verdict that the log has,
-or 0 if it has none. A table with one has a byte more here, and so has a critical one. One of 16,384 bytes hasn't, and is judged by its
-first byte: 0 is rejected. What was written in place is an image more here that tells nobody. A log of more requests than a session has
-goes on in a further session.
+A handle of the log is the one here that the same registration gave. A validation function gives the verdict of the log, or 0 if the
+log has none. A table with one has a byte more here, and so has a critical one. One of 16,384 bytes hasn't, and is judged by its
+first byte: 0 is rejected. What was written in place is an image more here that nobody is notified of. A log of more requests than a
+session has goes on in a further session.
 
-Exit status: 0 if no call is answered otherwise; 1 if one is; 2 for wrong use, or if a file can't be read, or a line is wrong or cut
+Exit status: 0 if no call is answered differently; 1 if one is; 2 for wrong use, or if a file can't be read, or a line is wrong or cut
 off; 4 if a write fails; 125 without a program; the status of a program that ended by itself.
 """
 import contextlib

@@ -3,14 +3,14 @@
     cfetbl cosmos [-o FILE] [--cfe-layout [--big-endian] [--event-ids HEADER]]
 
 They are written to FILE or to standard output, as one file for the folder cmd_tlm/ of a target that is called CFE_TBL.
---cfe-layout takes cFE's default layouts, in which `cfetbl serve --cfe-layout` sends its telemetry, and else the layouts are those
-of docs/reference/packets.md. Of cFE's layouts the numbers in payloads begin with their low byte, as on most processors; with --big-endian
+With --cfe-layout they are of cFE's default layouts, in which `cfetbl serve --cfe-layout` sends its telemetry, and without it of those
+of docs/reference/packets.md. In cFE's layouts the numbers in payloads begin with their low byte, as on most processors; with --big-endian
 they begin with the high one. --event-ids takes the numbers of events from your cfe_tbl_eventids.h.
 
-The definitions leave the checksum of a command 0. The ground system puts it in, so that the exclusive or of 0xFF and all bytes is 0,
+The definitions leave the checksum of a command 0. The ground system sets it, so that the exclusive or of 0xFF and all bytes is 0,
 or the service takes any (`cfetbl serve --any-checksum`, and always with --cfe-layout).
 
-Exit status: 0; 2 for wrong use; 4 where a write fails.
+Exit status: 0; 2 for wrong use; 4 if a write fails.
 """
 from tblkit import cosmos, definitions
 

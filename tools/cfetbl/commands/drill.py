@@ -1,4 +1,4 @@
-"""`cfetbl drill`: a session that a seed decides is played, and how many of its requests were answered how is told."""
+"""`cfetbl drill`: plays a session that a seed decides, and prints how many of its requests were answered how."""
 import argparse
 import contextlib
 import subprocess
@@ -15,7 +15,7 @@ NUMBERS = "a seed is a number below 2^64, and a number of rounds one from 0 to 3
 MEANINGS = {
     "entries": "requests were played: 9 that begin a drill, and one for each round",
     "success": "of them were answered with status 0",
-    "info": "with a status from 1 to 31, as 9 where a table is locked",
+    "info": "with a status from 1 to 31, as 9 if a table is locked",
     "refused": "with a status from 32 on",
     "images": "{} went active; one that is recovered from the store counts too",
 }

@@ -7,7 +7,7 @@
     cfetbl explain status|event|run ..  the same as NUMBER or NAME, of these alone
     cfetbl explain                      the numbers and names of all, and cFE's words
 
-Of each it tells what it is called in cFE, what it means, when it comes, and what to do. `run` is the status with which the program
+It says what each is called in cFE, what it means, when it is returned or sent, and what to do. `run` is the status with which the program
 ends. docs/reference/statuses.md has all of them as an index, made of the same table (tools/names.tsv), and the order in which refusals are
 tested. What is said of cFE is said of its default configuration as far as this project knows it.
 
@@ -44,13 +44,13 @@ def found_words(word) -> list[names.Word]:
 
 def refuse(word, chosen) -> NoReturn:
     known = [it.name for _, it in chosen] + [it.name for it in names.cfe_words()]
-    near = meant(word, known) or "; without a word it tells the numbers and names of all"
+    near = meant(word, known) or "; without a word it lists the numbers and names of all"
     fail(TOOL, f"no status, event, end of a run or word of cFE is called {word}{near}", WRONG_USE)
 
 
 def lines(kind, one) -> list[str]:
     """What is told of a status, an event or an end of a run."""
-    told: list[tuple[str, str]] = list(zip(("means", "comes", "to do"), names.explained()[kind, one.number]))
+    told: list[tuple[str, str]] = list(zip(("means", "when", "to do"), names.explained()[kind, one.number]))
     told = [("in cFE", ", ".join(names.in_cfe(kind, one.number))), *told]
     return [f"{kind} {one.number} {one.name}", *filled(told)]
 

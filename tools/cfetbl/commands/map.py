@@ -3,15 +3,15 @@
     cfetbl map [STORE]              lists its blocks by their slots, and what is free between them
     cfetbl map -o FILE [STORE]      makes a page of it: its 128 slots, and each block in its place
 
-STORE is a store file as the program keeps it, cds.store in the working folder without a name, or any bytes that may stand in
-preserved memory; - is standard input. `--store FILE` names it as for `cfetbl play`. It is only read. Of each block it tells whose it is, where its first place begins, its
-size without the head of 8 bytes, its state, which of its two places shows, and the check word and the first bytes of that
-place. Its state is whole; reserved and without an image, since no copy into it completed; or torn, which means that the bytes
-of the place that shows don't match its head. A torn block has both check words: the one that stands in its head, and that of
-its bytes. What is free is told for the first places; the second ones lie 131,072 bytes further on in the same order. A block of
-version 1 has one place. An entry with an open gate that doesn't count is told with the reason. docs/reference/store.md has each byte.
+STORE is a store file of the program (cds.store in the working folder without a name), or any bytes that may be in preserved memory;
+- is standard input. `--store FILE` names it as for `cfetbl play`. It is only read. Each block has a line: whose it is, where its first
+place begins, its size without the head of 8 bytes, its state, which of its two places shows, and the check word and the first bytes
+of that place. Its state is whole; reserved and without an image, since no copy into it completed; or torn, which means that the bytes
+of the place that shows don't match its head. A torn block has both check words: that of its head, and that of its bytes. What is free
+is listed for the first places; the second ones are 131,072 bytes further on in the same order. A block of version 1 has one place. An
+entry with an open gate that doesn't count is listed with the reason. docs/reference/store.md has each byte.
 
-Exit status: 0; 2 for wrong use, or where the file isn't a store file or can't be read; 4 where a write fails.
+Exit status: 0; 2 for wrong use, or if the file isn't a store file or can't be read; 4 if a write fails.
 """
 import contextlib
 

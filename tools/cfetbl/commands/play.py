@@ -1,4 +1,4 @@
-"""`cfetbl play` and `cfetbl crew`: a session is played, and its transcript is written, or shown."""
+"""`cfetbl play` and `cfetbl crew`: play a session, and write its transcript, or show it."""
 import argparse
 import contextlib
 import itertools
@@ -49,7 +49,7 @@ def look_at_session(chosen: argparse.Namespace, parser: Parser) -> None:
     if len(chosen.files) > 1:
         parser.error(f"{word} takes one session")
     if chosen.files and chosen.text:
-        parser.error("--text is of standard input; a session that is named is known by its content")
+        parser.error("--text is for standard input; a session that you name is known by its content")
 
 
 def look(chosen: argparse.Namespace, parser: Parser) -> None:
@@ -60,7 +60,7 @@ def look(chosen: argparse.Namespace, parser: Parser) -> None:
     if not chosen.show:
         for name in OF_SHOW:
             if getattr(chosen, name):
-                parser.error(f"--{name.replace('_', '-')} stands after --show")
+                parser.error(f"--{name.replace('_', '-')} has to be after --show")
         keep_off_terminal(chosen, parser)
         return
     if not chosen.files:

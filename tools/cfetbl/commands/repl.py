@@ -1,10 +1,10 @@
-"""A session that is typed: each line is played at once, and its answer stands below it.
+"""A session that you type: each line is played at once, and its answer is printed below it.
 
     cfetbl repl [--store FILE] [--shape NAME=SHAPE] [--shape-of NAME=OBJ]
 
 It reads lines from standard input. With the last two options it shows images of the table by field, as `cfetbl show` does.
 
-A line is one of session text; `cfetbl text --help` has their forms. Where standard input is a terminal, the tab key completes
+A line is one of session text; `cfetbl text --help` has their forms. If standard input is a terminal, the tab key completes
 words, tables, files and handles, and the arrow keys bring back what was typed before. Other lines are:
 
     :state              the applications, handles and tables, with their images, loads and addresses that are held
@@ -19,7 +19,7 @@ The session is played in a folder of its own, over a copy of a store file as it 
 folder, or of the FILE of --store; with --store none it begins with an empty store. That file stays as it is. `cfetbl play` of a
 session that was saved gives the same over the same file.
 
-Exit status: that of the run; 2 for wrong use, or where a line was wrong that didn't come from a terminal; 4 where a write fails;
+Exit status: that of the run; 2 for wrong use, or if a line was wrong that wasn't typed at a terminal; 4 if a write fails;
 125 without a program.
 """
 import contextlib
@@ -101,7 +101,7 @@ class Console:
             self._save(words)
         else:
             self.is_wrong = True
-            say(f"{TOOL}: :{name} is no such line{meant(f':{name}', LINES)}; `help` has those that there are")
+            say(f"{TOOL}: there is no line :{name}{meant(f':{name}', LINES)}; `help` lists them")
         sys.stdout.flush()
         return True
 

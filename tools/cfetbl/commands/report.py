@@ -1,28 +1,27 @@
 """A session as a page to look at.
 
     cfetbl report [OPTION..] SESSION               plays the session, and makes a page of it
-    cfetbl report [OPTION..] SESSION TRANSCRIPT    makes a page of a transcript that was kept
+    cfetbl report [OPTION..] SESSION TRANSCRIPT    makes a page of a transcript that you kept
 
     -o FILE                        writes the page to FILE
     --store FILE, --durable        where the Critical Data Store is, and whether its writes are synced; for a session that is played
     --shape NAME=SHAPE, --shape-of NAME=OBJ
                                    shows images of the table by field, as `cfetbl show` does
 
-The page is one file in HTML, written to FILE or to standard output, and needs no network, but a browser of 2023 or later. First it
-counts requests, refusals by status, images by table, and events. Then comes a time line, with a request at each place: who made
-it, and for each table from where to where it was registered, which image was active, how far its load or its dump had come,
-which handles held its address, and which requests about it were refused, with their status. A reset is a line through all. It can
-be zoomed, by buttons or by dragging over the strip above it, and shows all requests or those of a table, with a status, with an
-event, or with some words. Below it stands each of these with its answer and its packets, as `cfetbl play --show` has them. A click
-on one marks the other, and with the keyboard the arrow keys go from one to the next. Of a transcript that breaks off it has what
-is there.
+The page is one file in HTML, written to FILE or to standard output. It needs no network, but a browser of 2023 or later. It begins
+with counts: requests, refusals by status, images by table, and events. Below is a time line with a place for each request: who made
+it, and for each table from where to where it was registered, which image was active, how its load or its dump went on, which handles
+held its address, and which requests about it were refused, with their status. A reset is a line through all. You can zoom, by buttons
+or by dragging over the strip above it, and show all requests or those of a table, with a status, with an event, or with some words.
+Each of these is listed below with its answer and its packets, as by `cfetbl play --show`. A click on one marks the other, and the
+arrow keys go from one to the next. Of a transcript that breaks off the page has what is there.
 
 All of it is worked out from the session and its transcript. SESSION is text or records; - is standard input. The Critical Data
 Store is cds.store of the working folder, or the FILE of --store; none is a fresh one that is thrown away. --durable syncs it
 after each write.
 
-Exit status: that of the run, where it is played; 1 where the transcript breaks off, isn't one or is of another session; 2 for
-wrong use, or where a file can't be read or a line of the session is wrong; 4 where a write fails; 125 without a program.
+Exit status: that of the run, if it is played; 1 if the transcript breaks off, isn't one or is of another session; 2 for wrong use,
+or if a file can't be read or a line of the session is wrong; 4 if a write fails; 125 without a program.
 """
 import contextlib
 import os
@@ -49,7 +48,7 @@ def look(chosen, parser) -> None:
     if chosen.session is None:
         parser.error("a session is missing")
     if chosen.transcript and (chosen.store or chosen.durable):
-        parser.error("--store and --durable are of a session that is played, and the transcript tells that it was")
+        parser.error("--store and --durable are for a session that is played, and with a transcript none is")
     chosen.shapes = shapes.of_options(TOOL, parser, chosen)
     if chosen.output != "-":
         inputs.keep(TOOL, f"-o {chosen.output}", chosen.output, [it for it in (chosen.session, chosen.transcript) if it])

@@ -1,9 +1,9 @@
-"""`cfetbl resets`: runs its program, and tells how far it is.
+"""`cfetbl resets`: runs its program, and says how far it is.
 
-Each row of the program's table goes to standard output as it comes, or with --html all of them into a page. For each write to preserved
-memory it has a bar with its bytes from left to right, in the color of what each critical table comes back with after a reset there.
-Standard error says every few seconds how many writes were tried, of how many. --program PROGRAM runs another one, and --name NAME is what
-the session is called in the page.
+Each row of the program's table goes to standard output as it is written, or with --html all of them into a page. For each write to
+preserved memory the page has a bar with its bytes from left to right, in the color of what each critical table is recovered with after a
+reset there. Standard error says every few seconds how many writes were tried, of how many. --program PROGRAM runs another one, and
+--name NAME is what the session is called in the page.
 """
 import argparse
 import contextlib
@@ -29,7 +29,7 @@ STORE = re.compile(r"resets: (.*?)( \(os error \d+\))?", re.S)
 IN_USE = " is in use by another program"
 # Why it ended. If the store file can't be read the program has said so.
 WHY = {
-    1: "a mix of images came back, or an image was lost, as the last line says; or out of memory, where that line is missing",
+    1: "a mix of images came back, or an image was lost, as the last line says; or out of memory, if that line is missing",
     2: "--every takes a number from 1 on",
     3: "reading failed; resets in the records before were tried",
     WRITE_FAILED: "writing failed; the table isn't whole",

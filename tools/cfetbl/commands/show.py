@@ -4,14 +4,14 @@
     cfetbl show [OPTION..] TRANSCRIPT            the answers alone
 
 SESSION is a session, as text or as records. TRANSCRIPT is what the service wrote for it, and - is standard input, as it is
-without any name. An entry is shown beside the next record of its actor, so a transcript of `cfetbl crew` is shown in the
-order in which the actors had their turns.
+without any name. An entry is shown with the next record of its actor, so a transcript of `cfetbl crew` is shown in the
+order of turns.
 
-A line is a request, its status, and what its detail and its reply bytes tell. The packets that it sent stand below it,
+A line is a request, its status, and what its detail and its reply bytes say. The packets it sent are listed below it,
 with the fields that aren't 0 (rows and validators: that aren't none). With a session at hand a row, which is cFE's registry
-index, stands beside the name of its table, and a refusal for the wrong handle tells which ones the application has. Long
-data is cut short. The last line is the end record. Fields have the names of tools/names.tsv. On a terminal place, request and
-answer stand in columns that fit its width, and what is longer goes on below.
+index, is shown with the name of its table, and a refusal for the wrong handle lists the handles that the application has. Long
+data is cut short. The last line is the end record. Fields have the names of tools/names.tsv. On a terminal, place, request and
+answer are columns that fit its width; what is longer goes on below.
 
     --all            all fields, those of the headers too, and all data
     --json           a JSON object a line, with all fields; numbers as numbers, bytes in hexadecimal
@@ -23,17 +23,18 @@ answer stand in columns that fit its width, and what is longer goes on below.
     --shape-of NAME=OBJ
                      the same by the object file that defines the table (`cfetbl table --help`); of more than 24 fields
                      the first ones, and with --all all of them
-    --diff OTHER     the first entry in which the transcript OTHER differs, by field: TRANSCRIPT | OTHER
-    --pcap FILE      writes no lines, but the commands of the session and what the service sent as a capture, which
-                     Wireshark opens; tools/cfetbl.lua tells it the fields
+    --diff OTHER     the first entry that differs in the transcript OTHER, by field: TRANSCRIPT | OTHER
+    --pcap FILE      writes no lines, but a capture of the session's commands and of what the service sent, which Wireshark
+                     opens; tools/cfetbl.lua has the fields
     --color WHEN     colors for what was refused and for events: always, never or auto, which is on a terminal, if NO_COLOR isn't set
-    --session-order  the lines of a transcript of `cfetbl crew` in the order of the session, but those that meet in the order
-                     of their turns: that name the same table, file or block, give out handles, or meet all others, as a reset
-                     and a request for housekeeping do. The number before a request is its place in the order of turns
+    --session-order  the lines of a transcript of `cfetbl crew` in the order of the session; requests that meet are in the order
+                     of their turns. They meet if they name the same table, file or block, if they give out handles, or if one
+                     meets all others, as a reset and a request for housekeeping do. The number before a request is its place
+                     in the order of turns
     --check          looks at the words alone, and at whether the session has the tables of --shape, and writes nothing
 
-Exit status: 0; 1 where the transcript breaks off or isn't one, or where OTHER differs; 2 for wrong use, or where a file
-can't be read or a line of the session is wrong; 4 where a write fails.
+Exit status: 0; 1 if the transcript breaks off or isn't one, or if OTHER differs; 2 for wrong use, or if a file can't be read
+or a line of the session is wrong; 4 if a write fails.
 """
 import contextlib
 import json

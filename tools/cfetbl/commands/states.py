@@ -4,11 +4,11 @@
     cfetbl states [-o FILE] --cover
 
 A line is a state of a table: how it was registered, whether it was loaded, what is pending, and whether a handle has its address. A
-column is a call or a command, and in it stand the statuses that it was answered with in this state (`cfetbl explain` tells what they
-are). A dot is a pair of a state and a call that can be reached and that the sessions don't reach; a blank one can't be reached.
+column is a call or a command, with the statuses that it was answered with in this state (`cfetbl explain` says what they mean). A dot
+is a pair of a state and a call that can be reached and that the sessions don't reach; a blank one can't be reached.
 
 What can be reached is found by a walk: over tables with one buffer, with two, and dump-only ones, with a validation function and without,
-it makes each call and command once in each state that it comes to. --cover tells of this walk itself. `cfetbl cfe-app --cover` makes an
+it makes each call and command once in each state that it reaches. --cover shows this walk itself. `cfetbl cfe-app --cover` makes an
 application of cFE of it, so that `no difference` there is said of all these pairs.
 
   -o FILE   writes a page in HTML

@@ -1,4 +1,4 @@
-"""What a store file has, as the program's word `store` tells it: a line for each block, and one for all.
+"""What is in a store file, as the program's word `store` writes it: a line for each block, and one for all.
 
     cfetbl store [--long | --all] [FILE]
 
@@ -8,23 +8,23 @@
 A line of a block has its slot, where its first place begins, the size of its image, T for a table's block or A for an application's,
 its full name, and whether it is whole or torn. The last line has how many blocks there are, and how many bytes are free.
 
-Indented lines are no part of that: they tell of a torn block why it is torn, and why an entry that is open doesn't count (the next
-start closes it). A block is torn where neither place shows, since no copy into it completed, or where the bytes of the one that
-shows were damaged; then the length and the check word that stand in its head are told, and the check word of its bytes.
+Indented lines aren't the program's. They say why a torn block is torn, and why an entry that is open doesn't count (the next start
+closes it). A block is torn if neither place shows, since no copy into it completed, or if the bytes of the one that shows were
+damaged; then the line has the length and the check word of its head, and the check word of its bytes.
 docs/reference/store.md has every byte.
 
 FILE is the store file of a program, 262,144 bytes of preserved memory, or 131,072 in version 1, in which a block has one place;
 the next start carries such a store over. Without FILE it is cds.store in the working folder. `--store FILE` names it as for
-`cfetbl play`. The program is given a copy of it, so it is never written, and may be in use.
+`cfetbl play`. The program works on a copy, so FILE is never written, and may be in use.
 
     --long      below the line of each block which place shows, its check word, and its first bytes, and how large a further block
                 may be
     --all       the same with all bytes of each block
-    --begins    says in a line what a session that is played over FILE begins with, also if FILE isn't there yet
+    --begins    says in a line what a session that is played over FILE begins with, even if FILE isn't there yet
     --user      says in a line which process has FILE in use, or nothing
 
-Exit status: 0; 1 where the file has fewer bytes than a store, which are taken as zeros, or where no store is live in it; 2 for
-wrong use, or where it can't be read; 4 where a write fails; 125 where there is no program.
+Exit status: 0; 1 if the file has fewer bytes than a store, which are taken as zeros, or if no store is live in it; 2 for
+wrong use, or if it can't be read; 4 if a write fails; 125 if there is no program.
 """
 from tblkit import locks, proved, store, stores
 from tblkit.numbers import noun
@@ -116,7 +116,7 @@ def tell(name, is_long, whole) -> int:
         fail(TOOL, none, none.status)
     if text != store.text(bank):
         print(text, end="")
-        fail(TOOL, f"this tool reads {name} otherwise than the program, so it adds nothing to what that tells", 1)
+        fail(TOOL, f"this tool reads {name} in another way than the program, so it adds nothing to the program's lines", 1)
     write_lines(bank, iter(text.splitlines()), is_long, whole)
     return 0 if is_whole_file and store.is_live(bank) else 1
 

@@ -35,12 +35,12 @@ Exit status: 0; 1 if it is another file; 2 for wrong use, or if it can't be read
 DESCRIPTION = """A description is text, each line ended by a newline:
 
     table CS_APP.Limits        the table's full name
-    offset 0                   where in the table's image the first field stands
+    offset 0                   the place of the first field in the table's image
     u16 limit 300              then one field or more: TYPE NAME VALUE
     i16 gain -5
     hex key 0AFF
 
-TYPE is u8, u16, u32, i8, i16, i32 or hex; a NAME is 1 to 16 of a to z, 0 to 9 and _. Numbers are decimal and stand
+TYPE is u8, u16, u32, i8, i16, i32 or hex; a NAME is 1 to 16 of a to z, 0 to 9 and _. Numbers are decimal and made
 big-endian, negative ones in two's complement; the value of hex is 1 to 64 bytes. A file - is standard input.
 """
 # The words, each with its help and the names that it takes.

@@ -33,31 +33,31 @@ It reads SESSION, or standard input without it or with -, and writes standard ou
     app N cds-register NAME size COUNT
     app N cds-copy SLOT DATA
     app N cds-restore SLOT | cds-delete SLOT
-    bytes BYTES                                          bytes as they stand: a bad record, or a part of one
+    bytes BYTES                                          bytes as they are: a bad record, or a part of one
 
     BYTES   0102..    empty
-    DATA    hex 0102..    fill AA 16 (16 bytes AA)    from PATH (what stands in a file here)    empty
+    DATA    hex 0102..    fill AA 16 (16 bytes AA)    from PATH (the bytes of a file here)    empty
     IMAGE   inactive    active    NUMBER (any other selector)
-    OPTION  double    dump-only    critical    options NUMBER (all of them in the place of the words)
-    HEADER  a field of the file other than it is by default, and its value: content NUMBER, subtype NUMBER, length NUMBER,
+    OPTION  double    dump-only    critical    options NUMBER (all of them instead of the words)
+    HEADER  a field of the file with another value than by default: content NUMBER, subtype NUMBER, length NUMBER,
             spacecraft NUMBER, processor NUMBER, application NUMBER, seconds NUMBER, subseconds NUMBER, description NAME,
             reserved NUMBER, or states NUMBER for the number of image bytes
     MEMBER  member PATH=NAME, the member of a union that is shown (`cfetbl table --help`)
 
-A command, that is a ground line but for packet, may end in `count NUMBER`, its sequence count.
+A command, which is a ground line other than packet, may end in `count NUMBER`, its sequence count.
 
 What --back writes gives the same bytes again, of any input: a comment says why bytes are no record.
 
-A wrong line is told as FILE:LINE:COLUMN, what was expected and what was found there. The line with a caret follows, and the
-words that are allowed in that place. Up to ten wrong lines are told at once.
+A wrong line is reported as FILE:LINE:COLUMN, what was expected and what was found there. The line with a caret follows, and the
+words that are allowed there. Up to ten wrong lines are reported at once.
 
 Numbers are decimal, or hexadecimal with 0x. TABLE is a full name, as CS_APP.DefEeprom. A name with other characters than
-those of ASCII that print stands in quotes, with \\xNN for a byte. PATH, DESCRIPTION and OBJ are regular files, sought from
+those of ASCII that print is written in quotes, with \\xNN for a byte. PATH, DESCRIPTION and OBJ are regular files, sought from
 the folder of the session. A comment begins with # and ends with its line. A byte order mark of UTF-8 before the first line is
-skipped. Whether a request makes sense is for the service to answer: here a name only has to fit into its field.
+skipped. Whether a request makes sense is for the service to say: here a name only has to fit into its field.
 
-Exit status: 0; 1 where a line is wrong, and then nothing is written; 2 for wrong use, or where a file isn't text or can't be
-read; 4 where a write fails.
+Exit status: 0; 1 if a line is wrong, and then nothing is written; 2 for wrong use, or if a file isn't text or can't be read;
+4 if a write fails.
 """
 import shutil
 import sys

@@ -1,4 +1,4 @@
-"""`cfetbl watch`: a session is played as by `crew`, and a report is written of what application 16 gets."""
+"""`cfetbl watch`: plays a session as `crew` does, and writes a report of what application 16 gets."""
 import argparse
 import contextlib
 import subprocess
@@ -34,7 +34,7 @@ def main(chosen: argparse.Namespace, parser: Parser) -> int:
     with contextlib.ExitStack() as closing:
         if chosen.report:
             if not chosen.files or chosen.store or chosen.durable:
-                parser.error("--report takes a report that was kept, and then comes its session")
+                parser.error("--report takes a report that you kept, and its session after it")
             session = runs.Source(inputs.session_of(tool, chosen.files[0], closing))
             tell(tool, session, closing.enter_context(opened(chosen.report)).read())
             return 0

@@ -170,7 +170,7 @@ def _characters(field: Field, text: str) -> bytes:
     if len(text) > 1 and text[0] == text[-1] == '"':
         text = text[1:-1]
         if "\\" in ESCAPE.sub("", text) or '"' in ESCAPE.sub("", text):
-            raise Wrong(f'{field.name}: between quotes, a quote or backslash stands after a backslash, and \\xNN is a byte')
+            raise Wrong(f'{field.name}: between quotes, a quote or backslash needs a backslash before it, and \\xNN is a byte')
         content = b"".join(bytes([int(it[1], 16)]) if it[1] else (it[2] or it[3]).encode()
                            for it in re.finditer(ESCAPE.pattern + "|(.)", text, re.DOTALL))
     else:
