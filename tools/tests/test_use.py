@@ -54,7 +54,7 @@ EDITS = (
     ("<!-- status 1 -->\n\n", "", "cd examples; false` ended with 1"),
     ("<!-- any order -->\n\n", "", "wrote\n2 x\n1 y\nhello.txt"),
     ("    1 x\n", "    1 z\n", "wrote\n2 x\n1 y\nhello.txt"),
-    ("<!-- not played: it needs more -->\n\n", "", "`no-such-command` ended with 127"),
+    ("<!-- not played: it needs more -->\n\n", "", "`no-such-command` wrote"),
     ("<!-- not played: it needs more -->", "<!-- not played -->", "no comment for this check is `not played`"),
     ("<!-- not played: it needs more -->", "<!-- played by tools/gate/no-such -->", "there is no tools/gate/no-such"),
     ("    $ no-such-command", "    cfetbl no-such-word", ""),

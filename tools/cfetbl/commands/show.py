@@ -28,9 +28,11 @@ answer are columns that fit its width; what is longer goes on below.
                      opens; tools/cfetbl.lua has the fields
     --color WHEN     colors for what was refused and for events: always, never or auto, which is on a terminal, if NO_COLOR isn't set
     --session-order  the lines of a transcript of `cfetbl crew` in the order of the session; requests that meet are in the order
-                     of their turns. They meet if they name the same table, file or block, if they give out handles, or if one
-                     meets all others, as a reset and a request for housekeeping do. The number before a request is its place
-                     in the order of turns
+                     of their turns. The number before a request is its place in the order of turns. Two requests meet if they
+                     name the same table, file, block or slot; if both give out or take back handles, or make or delete blocks;
+                     or if one sets the time and the other sends a packet. A reset, HOUSEKEEPING, RESET_COUNTERS and
+                     DUMP_REGISTRY meet all others, and so does a request that is answered with 10, 42, 43, 57, 69, 71, 75, 76
+                     or 85, and a LOAD that is answered with 64
     --check          looks at the words alone, and at whether the session has the tables of --shape, and writes nothing
 
 Exit status: 0; 1 if the transcript breaks off or isn't one, or if OTHER differs; 2 for wrong use, or if a file can't be read
