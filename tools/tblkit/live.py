@@ -24,9 +24,9 @@ class Running:
     """A run of the program in a folder. `count` is how many requests were played, of which nothing else is kept. `end` is the end record,
     once it came, or what stands in its place; then nothing more is played."""
 
-    def __init__(self, folder=".", opening=()) -> None:
-        """`opening` has what the program is given."""
-        program = programs.found(word="serve")
+    def __init__(self, folder=".", opening=(), word="serve") -> None:
+        """`opening` has what the program is given, and `word` says which one it is."""
+        program = programs.found(word=word)
         if program is None:
             raise programs.NoProgram("there is no program, and none could be built")
         # In a session of its own, so that an interrupt from the keyboard reaches the tool alone.

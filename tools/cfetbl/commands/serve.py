@@ -23,6 +23,10 @@ lines set the time. The store file is cds.store of the working folder, as it is 
                             the files below it; without it none
     --housekeeping SECONDS  requests housekeeping every so many seconds, as a scheduler does
     --manage SECONDS        has owners manage tables for which something is pending, as often
+    --app LIBRARY           has images judged by the validation functions of your application, which are in this shared library:
+                            share/doc/cfetbl/examples/checker/app.c shows how it is made, and cfetbl_app.h says it. Tables are
+                            registered with the numbers that it gives them. A function that crashes refuses its image, which is told
+    --app-limit SECONDS     how long a function may take, and refuses its image then; 1 without it
     --script FILE           plays the lines of a session as text before all else
     --quiet                 tells no answers on standard output, which takes less time
     --clock                 sets the time to that of this system, in seconds since 1980
@@ -36,7 +40,7 @@ callers there are 64 at most: for a further one that goes which was silent for t
 packet that can't be sent is told with the address, and is lost; service goes on.
 
 Exit status: that of the run, or of its program where that ended by itself, 137 where it was killed; 2 for wrong use, where an
-address can't be taken, or where a line of the script is wrong; 4 where a write fails; 125 without a program; 128 and the number
+address can't be taken, where a line of the script is wrong, or where the library of --app can't be used; 4 where a write fails; 125 without a program; 128 and the number
 of the signal that ends it, where what was under way took more than 3 s and was broken off.
 """
 import argparse
@@ -49,8 +53,9 @@ from tblkit.streams import BY_SIGNAL, WRONG_USE, drop_output, fail, opened, say
 
 TOOL, HERE = "cfetbl serve", "127.0.0.1"
 OF_CFE = ("--big-endian", "--debug-events", "--event-ids")
-# The least that may be between two turns of what is done again and again, in seconds.
-SHORTEST = 0.01
+# The least that may be between two turns of what is done again and again, and the least and the most that a function of --app may take, in
+# seconds.
+SHORTEST, LEAST_LIMIT, MOST_LIMIT = 0.01, 0.001, 1000
 
 
 def seconds(word) -> float:
@@ -61,12 +66,22 @@ def seconds(word) -> float:
     return number
 
 
+def limit(word) -> float:
+    """How many seconds a validation function may take."""
+    number = float(word)
+    if not LEAST_LIMIT <= number <= MOST_LIMIT:
+        raise argparse.ArgumentTypeError(f"{word} isn't from {LEAST_LIMIT} to {MOST_LIMIT} seconds")
+    return number
+
+
 def add_arguments(parser) -> None:
     for option in ("--cfe-layout", "--big-endian", "--debug-events", "--any-checksum", "--quiet", "--clock"):
         parser.add_argument(option, action="store_true")
     for option in ("--housekeeping", "--manage"):
         parser.add_argument(option, type=seconds, metavar="SECONDS")
     parser.add_argument("--event-ids", metavar="HEADER")
+    parser.add_argument("--app", metavar="LIBRARY")
+    parser.add_argument("--app-limit", type=limit, metavar="SECONDS")
     for option, usual in (("--listen", HERE), ("--to", HERE), ("--socket", None), ("--files", None), ("--script", None)):
         parser.add_argument(option, default=usual)
     for option, port in (("--command-port", server.COMMAND_PORT), ("--telemetry-port", server.TELEMETRY_PORT)):
@@ -79,6 +94,8 @@ def look(chosen, parser) -> None:
     for option, is_given in zip(OF_CFE, (chosen.big_endian, chosen.debug_events, chosen.event_ids)):
         if is_given and not chosen.cfe_layout:
             parser.error(f"{option} is of --cfe-layout")
+    if chosen.app_limit and chosen.app is None:
+        parser.error("--app-limit is of --app")
     if chosen.files is not None and not os.path.isdir(chosen.files):
         parser.error("--files takes a folder")
 
@@ -125,8 +142,12 @@ def play_script(service, name, stop) -> None:
 
 def started(chosen, closing) -> live.Running:
     """The run, once its program is ready, or has ended instead."""
+    opening, word = stores.opening(TOOL, chosen, closing), "serve"
+    if chosen.app is not None:
+        opening, word = [*opening, "--app", chosen.app], "serve-app"
+        opening += ["--app-limit", f"{chosen.app_limit:.3f}"] if chosen.app_limit else []
     try:
-        running = live.Running(opening=stores.opening(TOOL, chosen, closing))
+        running = live.Running(opening=opening, word=word)
     except programs.NoProgram as none:
         fail(TOOL, str(none), programs.NO_PROGRAM)
     closing.callback(running.kill)
@@ -152,13 +173,14 @@ def serve(chosen, running, made, stop) -> None:
     made.serve(service, stop)
 
 
-def ended(running) -> int:
+def ended(chosen, running) -> int:
     """Ends the run: its status, after the line of its end, or why there is none."""
     status = running.finish()
-    if running.failure():
-        note(running.failure())
-    else:
+    if not running.failure():
         tell([running.end_line()])
+    elif chosen.app is None or status != WRONG_USE:
+        # (a library that can't be used is told by the program)
+        note(running.failure())
     return status
 
 
@@ -171,7 +193,7 @@ def main(chosen, parser) -> int:
                                  chosen.socket, chosen.files)
             running = started(chosen, closing)
             serve(chosen, running, made, stop)
-            return ended(running)
+            return ended(chosen, running)
         except ground.NoAddress as none:
             fail(TOOL, str(none), WRONG_USE)
         except stopping.Stopped as stopped:
