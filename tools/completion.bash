@@ -15,7 +15,7 @@ _cfetbl() {
         2:table) words='build shape dump diff set check --help' ;;
         *:table) words='-o --member --json --xtce --openc3 --base --time --spacecraft --processor --help' ;;
         *:map) words='-o --store --help' ;;
-        *:serve) words='--cfe-layout --big-endian --debug-events --event-ids --any-checksum --quiet --housekeeping --manage --listen --command-port --to --telemetry-port --socket --files --script --clock --store --durable --help' ;;
+        *:serve) words='--cfe-layout --big-endian --debug-events --event-ids --any-checksum --quiet --housekeeping --manage --app --app-limit --listen --command-port --to --telemetry-port --socket --files --script --clock --store --durable --help' ;;
         *:xtce) words='-o --cfe-layout --big-endian --event-ids --base --help' ;;
         *:cosmos) words='-o --cfe-layout --big-endian --event-ids --help' ;;
         *:compare) words='--expect --help' ;;

@@ -1,5 +1,6 @@
 """`cfetbl test --quick`: compiles the programs without any proof and tries them, as many jobs at a time as there are processors."""
 import os
+import shutil
 import subprocess
 import threading
 import time
@@ -13,7 +14,7 @@ from tblkit.streams import say
 
 FRONT = f"{TOP}/cfetbl"
 # The words that find or build a program, and the checks of what doesn't need one.
-PROGRAMS = ("play", "serve", "resets")
+PROGRAMS = ("play", "serve", "resets", *(["serve-app"] if shutil.which(os.environ.get("CC", "cc")) else []))
 OF_SOURCES = (["tools/gate/claims", "--check"], ["tools/gate/measures"], ["tools/gate/believed", "--check"], ["tools/gate/check-labels"],
               ["tools/gate/check-formats"], ["tools/gate/check-links"], ["tools/gate/check-types"], ["tools/gate/check-numbers"],
               ["tools/pictures", "--check"])

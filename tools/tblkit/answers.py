@@ -2,12 +2,14 @@
 import functools
 from typing import Any
 
-from . import files, layouts, names, packets, text
+from . import files, layouts, names, packets, text, transcript
 from .numbers import counted
 from .packets import Shown
 from .tables import NONE_KNOWN, SUCCESS, WRONG_HANDLE
 
 LONGEST_DATA = 32
+# Where these stand in the head of an entry.
+STATUS, ACTOR = transcript.NUMBERS["status"], transcript.NUMBERS["actor"]
 NO_BUFFER, IMAGE_SIZE = layouts.statuses("NO_BUFFER_AVAIL", "IMAGE_SIZE")
 BUFFERS = layouts.number("shared working buffers")
 VALIDATION_FINISHED, IMAGE_ACTIVE, COPY_FAILED = layouts.numbers_of(
@@ -25,7 +27,8 @@ class Answer:
     def __init__(self, entry, record=None, is_foreign=False, view=NONE_KNOWN) -> None:
         self.entry, self.record, self.is_foreign, self.view = entry, record, is_foreign, view
         self._fields: list[tuple[names.Field, bytes]] | None = None
-        self.status, self.actor = entry.number("status"), entry.number("actor")
+        numbers = transcript.HEAD.unpack(entry.head)
+        self.status, self.actor = numbers[STATUS], numbers[ACTOR]
         self.packets = [packets.decode(it) for it in packets.split(entry.sent)] if entry.sent else []
         # What was asked: the name of the record, or of the command in it.
         self.request = record and record.request.name

@@ -105,14 +105,22 @@ class FileStore:
 class Facts:
     """What the texts may tell of an event of an answer."""
 
-    def __init__(self, answer, told, file, store, image) -> None:
-        self._answer, self._told, self._file, self._store = answer, told, file, store
+    def __init__(self, answer, told, dumps, store, image) -> None:
+        self._answer, self._told, self._dumps, self._store = answer, told, dumps, store
         self._packet = answer.record.body if answer.record else b""
-        self.version, self.file, self.image = VERSION, _text(file), IMAGES[image]
+        self.version, self.image = VERSION, IMAGES[image]
         self.status, self.verdict = told.status, told.detail
 
     def __getitem__(self, name) -> Any:
         return getattr(self, name)
+
+    @functools.cached_property
+    def _file(self) -> bytes:
+        return self._dumps.file_of(self._answer, self._told.row)
+
+    @property
+    def file(self) -> str:
+        return _text(self._file)
 
     @property
     def table(self) -> str:
@@ -220,7 +228,7 @@ class Events:
         if row is None:
             return None
         image = self._finished.pop(0) if self._finished and told.number == VALIDATION_FINISHED else 0
-        facts = Facts(answer, told, self._dumps.file_of(answer, told.row), self.files, image)
+        facts = Facts(answer, told, self._dumps, self.files, image)
         kind = DEBUG if case == "loaded" and told.detail == 1 else row.kind
         return Event(self._numbers.get(row.name, row.number), kind, row.text.format_map(facts).encode("latin-1"))
 

@@ -48,5 +48,5 @@ def whole(packet) -> bytes:
     """A command with the checksum that it should have."""
     if len(packet) < packets.COMMAND_HEADER:
         return packet
-    front, back = packet[:CHECKSUM], packet[CHECKSUM + 1:]
-    return front + bytes([0xFF ^ packets.exclusive_or(front) ^ packets.exclusive_or(back)]) + back
+    checksum = 0xFF ^ packets.exclusive_or(packet) ^ packet[CHECKSUM]
+    return packet[:CHECKSUM] + bytes([checksum]) + packet[CHECKSUM + 1:]

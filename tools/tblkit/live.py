@@ -34,6 +34,7 @@ class Running:
                                          start_new_session=True, **programs.AS_HERE)
         # A program that has ended takes no bytes. Its status says why, and no signal ends the tool.
         signal.signal(signal.SIGPIPE, signal.SIG_IGN)
+        self._input = self._process.stdin.fileno()
         self._parts, self._left, self.count, self._length = transcript.parts(self._process.stdout), b"", 0, 0
         self._store, self.states = programs.store_of(opening, folder), states.States()
         self.end: Any = None
@@ -66,29 +67,32 @@ class Running:
             if is_bad:
                 self.finish()
                 return
-            piece = records.Piece(self._length, self._left[:length])
-            self._left = self._left[length:]
-            yield from self._answer(piece)
+            content, self._left = self._left[:length], self._left[length:]
+            yield from self.play(content)
 
-    def _answer(self, piece) -> Iterator[Answer]:
-        self._send(piece.content)
+    def play(self, content) -> list[Answer]:
+        """Plays one record, which is whole and good, and gives its answer; none once the run is over."""
+        if self.end is not None:
+            return []
+        self._send(content)
         if self.meanwhile:
             self.meanwhile(self.fileno())
         part = next(self._parts, None)
         if not isinstance(part, transcript.Entry):
             self.end = part
-            return
+            return []
+        answer = Answer(part, records.Piece(self._length, content), view=self.states.view)
         self.count += 1
-        self._length += len(piece.content)
-        answer = Answer(part, piece, view=self.states.view)
+        self._length += len(content)
         self.states.follow(answer)
-        yield answer
+        return [answer]
 
     def _send(self, content) -> None:
         """Hands bytes to the program. One that has ended takes none: what it wrote says why."""
+        left = memoryview(content)
         try:
-            self._process.stdin.write(content)
-            self._process.stdin.flush()
+            while left:
+                left = left[os.write(self._input, left):]
         except BrokenPipeError:
             pass
 

@@ -131,7 +131,7 @@ class Packet:
 
     def __init__(self, content) -> None:
         self.content = content
-        self.kind, self._header, self._body = _layout(content) if len(content) >= COMMAND_HEADER else UNKNOWN
+        self.kind, self._header, self._body = _layout(content[:2], len(content)) if len(content) >= COMMAND_HEADER else UNKNOWN
         # What an event tells, as numbers; None for any other packet.
         self.told = Told(*EVENT.unpack_from(content, TELEMETRY_HEADER)) if self.kind == "event" else None
 
@@ -169,13 +169,14 @@ class Packet:
         return TIME.unpack_from(self.content, PRIMARY)
 
 
-def _layout(packet) -> Any:
-    """What a packet is, and the names of the layouts of its secondary header and its body."""
-    message = number(packet[:2])
+@functools.lru_cache(KEPT)
+def _layout(front, length) -> Any:
+    """What a packet of so many bytes is that begins with these two, and the names of the layouts of its secondary header and its body."""
+    message = number(front)
     if message & IS_COMMAND:
-        return ("notice", "command header", "notice") if len(packet) == COMMAND_HEADER + 4 else UNKNOWN
+        return ("notice", "command header", "notice") if length == COMMAND_HEADER + 4 else UNKNOWN
     kind = names.named("message").get(message)
-    if kind and len(packet) == TELEMETRY_HEADER + names.size_of(kind.name):
+    if kind and length == TELEMETRY_HEADER + names.size_of(kind.name):
         return kind.name, "telemetry header", kind.name
     return UNKNOWN
 

@@ -74,7 +74,8 @@ class Service:
             content = text.record_of(line, folder)
         except TextError as error:
             raise Refused(text.report("<line>", line, error)) from None
-        if any(it.fault for it in records.pieces(io.BytesIO(content))):
+        found = list(records.pieces(io.BytesIO(content)))
+        if len(found) > 1 or any(it.fault for it in found):
             raise Refused("a line has to be one whole record")
         return [line for answer in self._play(content) for line in show.lines(answer)] if content else []
 
@@ -82,7 +83,7 @@ class Service:
         """Plays a record, after what has to come before it, and gives its answer; none where the run is over."""
         answers = []
         for record in (*self._before(content), content):
-            answers = list(self._running.ask(record))
+            answers = self._running.play(record)
             for answer in answers:
                 # (a file that was dumped is there when its event comes)
                 self._after(answer)
@@ -118,10 +119,11 @@ class Service:
         """What an answer has done here: a time that goes on, and files that were dumped into the ground's folder."""
         if self._clock:
             self._clock.follow(answer)
-        for name, content in self._dumps.written(answer) if self._mounted else ():
-            if self._mounted.is_of(name):
-                self._write(name, content)
-        self._dumps.follow(answer)
+        if self._mounted:
+            for name, content in self._dumps.written(answer):
+                if self._mounted.is_of(name):
+                    self._write(name, content)
+            self._dumps.follow(answer)
 
     def _write(self, name, content) -> None:
         try:
@@ -208,13 +210,12 @@ class Server:
     def _wait(self, service, stop) -> None:
         """Waits until something has come, and takes it."""
         waits = [(stop.awoken.fileno(), select.POLLIN, lambda: None), (service.fileno(), select.POLLIN, service.look),
-                 (self._inbox.fileno(), select.POLLIN, self._inbox.drain)]
+                 (self._inbox.fileno(), select.POLLIN, self._inbox.take)]
         waits += self._callers.waits() if self._callers else []
-        actions = {number: action for number, _, action in waits}
         patience = self._patience()
         for number, _ in self._poll_of(waits).poll(None if patience is None else math.ceil(1000 * patience)):
             if not service.is_over:
-                actions[number]()
+                next(action for waiting, _, action in waits if waiting == number)()
 
     def _poll_of(self, waits) -> Any:
         """What waits for these files. It is made anew only where they are others than before."""

@@ -81,7 +81,7 @@ def _counted(stream, head) -> bytes:
     count = int.from_bytes(length, "big")
     if count > MOST_REPLY:
         raise _Cut(f"an entry states {count} bytes, which no answer has")
-    content = stream.read(count)
+    content = stream.read(count) if count else b""
     if len(content) < count:
         raise _Cut("the transcript breaks off inside an entry")
     return content
