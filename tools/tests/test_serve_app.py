@@ -373,7 +373,7 @@ class Served(WithLibraries, Service):
 
 
 @needs_reader
-class Page(Served):
+class Page(WithLibraries, Service):
     """The block of docs/use/serve.md that builds a library and serves with it, at ports of its own."""
 
     NOTE = "<!-- played by tools/gate/check-app -->"
@@ -399,6 +399,5 @@ class Page(Served):
         self.assertEqual((status, said.decode().strip() in content), (0, True), said)
 
 
-del Service
 if __name__ == "__main__":
     unittest.main()
