@@ -3,6 +3,7 @@
 #include "serving.h"
 
 #include <errno.h>
+#include <signal.h>
 #include <stdarg.h>
 #include <stdio.h>
 #include <stdlib.h>
@@ -314,6 +315,8 @@ int main(int count, char **given)
     if (count == 2 && strcmp(given[1], "--version") == 0) {
         return write_out((const uint8_t *)"tbl_app_serve " CFETBL_VERSION "\n", sizeof "tbl_app_serve " CFETBL_VERSION) ? DONE : WRITE_FAILED;
     }
+    /* Nobody reading is a write that fails. */
+    signal(SIGPIPE, SIG_IGN);
     if (!read_words(count, given, &words)) {
         say("the words aren't known: see --help");
         return WRONG_USE;

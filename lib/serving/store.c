@@ -247,15 +247,13 @@ static bool put_contents(struct part *part)
     return put_changed(part, BLOCKS, TBL_BANK_SIZE - BLOCKS) && end_part(part);
 }
 
-/* Has other places show, and opens blocks. */
-static bool open_gates(struct part *part)
+/* Writes what changed at the same place of each entry: the turn bytes, which have other places show, or the gate. */
+static bool put_in_entries(struct part *part, size_t place, size_t length)
 {
     int slot;
 
     for (slot = 0; slot < SLOTS; slot++) {
-        size_t at = entry_at(slot);
-
-        if (!put_changed(part, at + TURNS_AT, TURNS) || !put_changed(part, at, 1)) {
+        if (!put_changed(part, entry_at(slot) + place, length)) {
             return false;
         }
     }
@@ -287,5 +285,6 @@ bool store_follow(struct store *store, struct tbl_handle *handle, bool is_power_
     if (is_power_on || memcmp(store->written, "CDS", VERSION_AT) != 0) {
         return put_fresh(&part);
     }
-    return close_gates(&part) && put_contents(&part) && open_gates(&part) && put_changed(&part, 0, HEADER) && end_part(&part);
+    return close_gates(&part) && put_contents(&part) && put_in_entries(&part, TURNS_AT, TURNS) && put_in_entries(&part, 0, 1) &&
+           put_changed(&part, 0, HEADER) && end_part(&part);
 }
