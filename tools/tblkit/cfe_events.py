@@ -105,14 +105,29 @@ class FileStore:
 class Facts:
     """What the texts may tell of an event of an answer."""
 
+    version = VERSION
+
     def __init__(self, answer, told, dumps, store, image) -> None:
-        self._answer, self._told, self._dumps, self._store = answer, told, dumps, store
-        self._packet = answer.record.body if answer.record else b""
-        self.version, self.image = VERSION, IMAGES[image]
-        self.status, self.verdict = told.status, told.detail
+        self._answer, self._told, self._dumps, self._store, self._image = answer, told, dumps, store, image
 
     def __getitem__(self, name) -> Any:
         return getattr(self, name)
+
+    @property
+    def image(self) -> str:
+        return IMAGES[self._image]
+
+    @property
+    def status(self) -> int:
+        return self._told.status
+
+    @property
+    def verdict(self) -> int:
+        return self._told.detail
+
+    @property
+    def _packet(self) -> bytes:
+        return self._answer.record.body if self._answer.record else b""
 
     @functools.cached_property
     def _file(self) -> bytes:

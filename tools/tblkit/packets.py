@@ -221,10 +221,10 @@ def _event_parts(content, parts) -> list[Shown]:
 
 def split(content) -> Iterator[bytes]:
     """The packets in a reply, one after the other. Bytes that are no whole packet come last, as they stand."""
-    at = 0
-    while at < len(content):
+    at, size = 0, len(content)
+    while at < size:
         length = number(content[at + 4:at + PRIMARY]) + LENGTH_LESS
-        if len(content) - at < max(length, COMMAND_HEADER):
-            length = len(content) - at
+        if size - at < length or size - at < COMMAND_HEADER:
+            length = size - at
         yield content[at:at + length]
         at += length

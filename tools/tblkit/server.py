@@ -198,8 +198,10 @@ class Server:
     def serve(self, service, stop) -> None:
         """Serves until the run is over, or the service is to stop."""
         service.wait_by(self._inbox.drain_until)
+        own = [(stop.awoken.fileno(), select.POLLIN, lambda: None), (service.fileno(), select.POLLIN, service.look),
+               (self._inbox.fileno(), select.POLLIN, self._inbox.take)]
         while not (service.is_over or stop.is_asked):
-            self._wait(service, stop)
+            self._wait(service, [*own, *self._callers.waits()] if self._callers else own)
             self._take_commands(service, stop)
             for work in self._works:
                 if not (service.is_over or stop.is_asked):
@@ -207,11 +209,8 @@ class Server:
             if self._callers and not service.is_over:
                 self._callers.turn(lambda line: self._played(service, line))
 
-    def _wait(self, service, stop) -> None:
-        """Waits until something has come, and takes it."""
-        waits = [(stop.awoken.fileno(), select.POLLIN, lambda: None), (service.fileno(), select.POLLIN, service.look),
-                 (self._inbox.fileno(), select.POLLIN, self._inbox.take)]
-        waits += self._callers.waits() if self._callers else []
+    def _wait(self, service, waits) -> None:
+        """Waits until something has come, and takes it: of each file there is what is waited for, and what takes it."""
         patience = self._patience()
         for number, _ in self._poll_of(waits).poll(None if patience is None else math.ceil(1000 * patience)):
             if not service.is_over:

@@ -15,6 +15,7 @@ HEAD = layouts.shape("entry")
 # Before the reply and before the packets stands how many bytes they have.
 LENGTH = 4
 MOST_REPLY = 1 << 26
+INSIDE = "the transcript breaks off inside an entry"
 
 
 class Entry(typing.NamedTuple):
@@ -59,7 +60,9 @@ def parts(stream) -> Iterator[Entry | Broken | End]:
                 yield Broken("there are bytes after the end record", further)
             return
         try:
-            reply, sent = _counted(stream, head), _counted(stream, head)
+            if len(head) < ENTRY_HEAD:
+                raise _Cut(INSIDE if head else "there is no end record")
+            reply, sent = _counted(stream), _counted(stream)
         except _Cut as cut:
             yield Broken(str(cut), head, is_empty and not head)
             return
@@ -71,17 +74,15 @@ class _Cut(Exception):
     pass
 
 
-def _counted(stream, head) -> bytes:
+def _counted(stream) -> bytes:
     """Bytes after their length."""
-    if not head:
-        raise _Cut("there is no end record")
     length = stream.read(LENGTH)
-    if len(head) < ENTRY_HEAD or len(length) < LENGTH:
-        raise _Cut("the transcript breaks off inside an entry")
+    if len(length) < LENGTH:
+        raise _Cut(INSIDE)
     count = int.from_bytes(length, "big")
     if count > MOST_REPLY:
         raise _Cut(f"an entry states {count} bytes, which no answer has")
     content = stream.read(count) if count else b""
     if len(content) < count:
-        raise _Cut("the transcript breaks off inside an entry")
+        raise _Cut(INSIDE)
     return content

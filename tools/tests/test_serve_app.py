@@ -130,7 +130,7 @@ class Played(WithLibraries):
 
     def test_long(self):
         """Pieces of the input are cut anywhere, and records are as long as they can be."""
-        lines = ["app 1 start A", "app 1 register T size 16384 validator 0", "app 1 register U size 16384 double validator 0 critical"]
+        lines = ["app 1 start A", "app 1 register T size 16384 validator 0", "app 1 register U size 16384 double critical validator 0"]
         lines += [f"app 1 load {it % 2} fill {1 + it:02X} 16384" for it in range(20)] + ["file /f fill 41 32768", "ground LOAD /f"]
         self.both(b"".join(map(text.record_of, lines)))
 
@@ -363,8 +363,8 @@ class Served(WithLibraries, Service):
         served, address = self.start("--script", "script.txt", "--socket", os.path.join(self.folder, "calls"), "--app", self.library("HOSTILE"),
                                      "--app-limit", "0.2")
         lines = self.call_lines(os.path.join(self.folder, "calls"), "app 1 load 1 hex 01020304", "app 1 load 0 hex 01020304")
-        self.assertEqual([it for it in lines if "->" in it], ["4 app 1 load 1 hex 01020304 -> 59 ERR_VALIDATION_FAILED, verdict -2147483648",
-                                                              "5 app 1 load 0 hex 01020304 -> 59 ERR_VALIDATION_FAILED, verdict -2147483648"])
+        self.assertEqual([it for it in lines if "->" in it], ["4 app 1 load 1 hex 01020304 -> 58 ERR_VALIDATION_FAILED, verdict -2147483648",
+                                                              "5 app 1 load 0 hex 01020304 -> 58 ERR_VALIDATION_FAILED, verdict -2147483648"])
         for _ in range(3):
             self.ground.recv(4096)
         self.assertEqual(self.ask(address, packets.command("NOOP", b""))[:2], b"\x08\x08")
