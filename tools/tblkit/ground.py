@@ -79,13 +79,13 @@ class Inbox:
     def take(self) -> None:
         """Takes what has come: one datagram if none waits here, since mostly there is no other one, and else as many as there are. What
         comes with the first is taken while that is played."""
-        self.drain(AT_ONCE if self._waiting else 1)
+        self.drain(None if self._waiting else 1)
 
-    def drain(self, most=AT_ONCE) -> None:
-        """Takes what has come, so many datagrams at most."""
+    def drain(self, most=None) -> None:
+        """Takes what has come: so many datagrams at most, or as many as may be taken at once."""
         view = memoryview(self._buffer)
         try:
-            for taken in range(most):
+            for taken in range(most or AT_ONCE):
                 length = self._socket.recv_into(self._buffer)
                 self._came_together |= bool(taken or self._waiting)
                 if len(self._waiting) < MOST_WAITING and self._bytes + length <= MOST_BYTES:
