@@ -3,6 +3,7 @@ numbers have the byte order of the processor. Which field has what stands in the
 """
 import functools
 import struct
+from collections.abc import Iterator
 from dataclasses import dataclass
 from typing import Any
 
@@ -47,16 +48,16 @@ class Sender:
         self._order, self._is_debug = order, is_debug
         self._events, self._counts = cfe_events.Events(numbers), {}
 
-    def packets(self, answer) -> list[bytes]:
-        """The packets of an answer that go to the ground."""
-        events, found = iter(self._events.of(answer)), []
+    def packets(self, answer) -> Iterator[bytes]:
+        """The packets of an answer that go to the ground. What the answer changes is followed once all were taken."""
+        events = iter(self._events.of(answer))
         if answer.request == "Reset" or answer.status == tables.STOPPED:
             self._counts = {}
         for packet in answer.packets:
             event = next(events) if packet.kind == "event" else None
             if sources(packet.kind) and (packet.kind != "event" or self._is_sent(event)):
-                found.append(self._packet(packet, event))
-        return found
+                yield self._packet(packet, event)
+        self._events.follow(answer)
 
     def know(self, name) -> None:
         """A file of this name is there already, where a dump may write it."""

@@ -229,12 +229,8 @@ class Events:
 
     def of(self, answer) -> list[Event | None]:
         """cFE's event of each event of an answer, in their order, and None for those that cFE doesn't send."""
-        told, self._finished = [], self._images_finished(answer)
-        for packet in answer.packets:
-            if packet.kind == "event":
-                told.append(self._event(answer, packet))
-        self._follow(answer)
-        return told
+        self._finished = self._images_finished(answer)
+        return [self._event(answer, packet) for packet in answer.packets if packet.kind == "event"]
 
     def _event(self, answer, packet) -> Event | None:
         told = packet.told
@@ -286,8 +282,8 @@ class Events:
         handle = answer.handle() if answer.request == "Validate" else None
         return sorted(self._pending.get(handle.table, ()), reverse=True)[:1] if handle else []
 
-    def _follow(self, answer) -> None:
-        """Goes on to what stands after an answer."""
+    def follow(self, answer) -> None:
+        """Goes on to what stands after an answer, whose events were asked for."""
         command = answer.request
         if command == "Reset" or answer.status == tables.STOPPED:
             self._pending, self.assumed = {}, 0

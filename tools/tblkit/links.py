@@ -1,4 +1,6 @@
 """How a ground system is spoken to: what comes as a command, and what is sent of an answer."""
+from collections.abc import Iterable
+
 from . import cfe, packets
 
 # The kinds of packets that go to the ground. A notice is for an application.
@@ -16,8 +18,8 @@ class Plain:
         """The command of a datagram; None for one that isn't for the service."""
         return whole(packet) if self._is_any_checksum else packet
 
-    def packets(self, answer) -> list[bytes]:
-        """The packets of an answer that go to the ground."""
+    def packets(self, answer) -> Iterable[bytes]:
+        """The packets of an answer that go to the ground, each of which is taken."""
         return [it.content for it in answer.packets if it.kind in TO_GROUND]
 
     def know(self, name) -> None:
@@ -37,7 +39,7 @@ class Cfe(Plain):
             return None
         return super().command(cfe.command(packet, self._order))
 
-    def packets(self, answer) -> list[bytes]:
+    def packets(self, answer) -> Iterable[bytes]:
         return self._sender.packets(answer)
 
     def know(self, name) -> None:

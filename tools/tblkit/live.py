@@ -68,24 +68,25 @@ class Running:
                 self.finish()
                 return
             content, self._left = self._left[:length], self._left[length:]
-            yield from self.play(content)
+            yield from list(self.play(content))
 
-    def play(self, content) -> list[Answer]:
-        """Plays one record, which is whole and good, and gives its answer; none once the run is over."""
+    def play(self, content) -> Iterator[Answer]:
+        """Plays one record, which is whole and good, and gives its answer; none once the run is over. What the answer changes is followed
+        once it was taken."""
         if self.end is not None:
-            return []
+            return
         self._send(content)
         if self.meanwhile:
             self.meanwhile(self.fileno())
         part = next(self._parts, None)
         if not isinstance(part, transcript.Entry):
             self.end = part
-            return []
+            return
         answer = Answer(part, records.Piece(self._length, content), view=self.states.view)
         self.count += 1
         self._length += len(content)
+        yield answer
         self.states.follow(answer)
-        return [answer]
 
     def _send(self, content) -> None:
         """Hands bytes to the program. One that has ended takes none: what it wrote says why."""

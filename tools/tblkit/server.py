@@ -83,8 +83,9 @@ class Service:
         """Plays a record, after what has to come before it, and gives its answer; none where the run is over."""
         answers = []
         for record in (*self._before(content), content):
-            answers = self._running.play(record)
-            for answer in answers:
+            answers = []
+            for answer in self._running.play(record):
+                answers.append(answer)
                 # (a file that was dumped is there when its event comes)
                 self._after(answer)
                 for packet in self._link.packets(answer):

@@ -114,7 +114,7 @@ def sent_as_cfe(order):
         sender = cfe.Sender(order, is_debug=True)
         for answer in answers(session):
             told = [it for it in show.as_object(answer, None)["packets"] if it["kind"] != "notice"]
-            got = sender.packets(answer)
+            got = list(sender.packets(answer))
             # (of what a dump, a registry dump and a validation without a function tell, cFE sends one event)
             yield from zip(got, told[len(told) - len(got):])
 
@@ -151,11 +151,11 @@ class LayoutsOfCfe(unittest.TestCase):
         event = bytes_of("0808 C001 0011 00000064 8000 0002 00000041 FFFF 00000000")
         message = b"Cannot activate table 'A.T'. No Inactive image available".ljust(122, b"\0")
         sender = cfe.Sender()
-        self.assertEqual(sender.packets(self.answer("ground ACTIVATE A.T", 65, [event])), [bytes_of(
+        self.assertEqual(list(sender.packets(self.answer("ground ACTIVATE A.T", 65, [event]))), [bytes_of(
             "0808 C001 00A5 00000064 8000 00000000 4346455F54424C 00*13 4600 0300 42000000 01000000") + message + bytes(2)])
         body = "04 00 0001 0000 0001 00009C2B 00000000 00 01 00 01 04 000000 00000064 8000"
         housekeeping = bytes_of(f"0804 C000 011B 00000064 0000 {body} 412E54 00*37 412E54 00*37 2F61 00*62 00*64 412E54 00*37")
-        self.assertEqual(sender.packets(self.answer("ground HOUSEKEEPING", 0, [housekeeping])), [bytes_of(
+        self.assertEqual(list(sender.packets(self.answer("ground HOUSEKEEPING", 0, [housekeeping]))), [bytes_of(
             "0804 C001 0125 00000064 0000 00000000 04 00 0100 0000 0100 2B9C0000 00000000 00 412E54 00*37 01 00 01 04 00 0000 00000000"
             " 64000000 00000080 412E54 00*37 2F61 00*62 00*64 412E54 00*37")])
 
