@@ -23,7 +23,9 @@ enum {
     TURNS = 2,
     BLOCKS = HEADER + SLOTS * ENTRY,
     LIVE = 0x43,
-    OPEN = 0xA5
+    OPEN = 0xA5,
+    /* How much is compared at once. */
+    PIECE = 1024
 };
 
 static bool failed(const struct store *store, const char *what)
@@ -193,6 +195,13 @@ static bool put_changed(struct part *part, size_t at, size_t length)
     const uint8_t *was = part->store->written, *is = part->store->wanted;
     size_t end = at + length;
 
+    /* (most of it is the same, and is compared in pieces) */
+    while (end - at >= PIECE && !differs(part->store, at, PIECE)) {
+        at += PIECE;
+    }
+    while (end - at >= PIECE && !differs(part->store, end - PIECE, PIECE)) {
+        end -= PIECE;
+    }
     while (at < end && was[at] == is[at]) {
         at++;
     }
