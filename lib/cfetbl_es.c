@@ -12,10 +12,9 @@
 #define NUMBER_OF(handle) ((uint32_t)(handle))
 #endif
 
-/* Ends a call with cFE's return code for a status. */
-static CFE_Status_t left_block(uint32_t status)
+/* cFE's return code for a status. */
+static CFE_Status_t block_code(uint32_t status)
 {
-    cfetbl_leave();
     switch (status) {
     case CFETBL_SUCCESS:
         return CFE_SUCCESS;
@@ -37,6 +36,15 @@ static CFE_Status_t left_block(uint32_t status)
     default:
         return CFE_STATUS_EXTERNAL_RESOURCE_FAIL;
     }
+}
+
+/* Ends a call with the code of a status. */
+static CFE_Status_t left_block(uint32_t status)
+{
+    CFE_Status_t code = cfetbl_returned(block_code(status));
+
+    cfetbl_leave();
+    return code;
 }
 
 CFE_Status_t CFETBL_ES_RegisterCDS(CFE_ES_CDSHandle_t *CDSHandlePtr, CFETBL_BlockSize_t BlockSize, const char *Name)

@@ -320,6 +320,20 @@ void cfetbl_free_files(struct cfetbl_files *files);
 
 /* ---- damaged blocks: damage.c */
 
+/* Where the directory of the Critical Data Store begins, its entries and the places of their fields, as docs/STORE.md lays them out; how far
+ * a block's second place is from its first; and how many bytes the head before an image has. */
+enum {
+    CFETBL_DIRECTORY = 16,
+    CFETBL_ENTRY = 64,
+    CFETBL_OPEN_GATE = 0xA5,
+    CFETBL_OFFSET_PLACE = 4,
+    CFETBL_BLOCK_SIZE_PLACE = 8,
+    CFETBL_NAME_PLACE = 12,
+    CFETBL_TURNS_PLACE = 52,
+    CFETBL_SECOND_PLACE = 131072,
+    CFETBL_HEAD = 8
+};
+
 /* Changes a byte of each place of the blocks of this name. False if there is none. */
 bool cfetbl_damage(uint8_t *bank, const char *name);
 
@@ -372,7 +386,37 @@ bool cfetbl_reopen(struct cfetbl_service *service);
 /* Preserved memory, with the damages. */
 const uint8_t *cfetbl_bank(struct cfetbl_service *service);
 
+/* Sets the time of a service and starts its applications as they are kept, and puts its files there: of a service that was opened again. */
+bool cfetbl_carry_over(struct cfetbl_service *service);
+
+/* ---- crash tests: crash.h, whose files aren't linked into a program that has none */
+
+/* What a crash test has called. */
+struct cfetbl_watch {
+    void (*begins)(const char *name);                                                          /* a function of this name begins */
+    void (*forbidden)(const char *name);                                                       /* the same, of one that no crash test may call */
+    void (*returns)(int32_t code);                                                             /* a call by cFE's name returns */
+    void (*before)(struct cfetbl_service *service, const struct cfetbl_record *record);        /* a record is handed to tbl_step */
+    void (*after)(struct cfetbl_service *service);                                             /* tbl_step has returned */
+};
+
+/* NULL if no crash test is at work. */
+extern const struct cfetbl_watch *cfetbl_watch;
+
+static inline int32_t cfetbl_returned(int32_t code)
+{
+    if (cfetbl_watch != NULL) {
+        cfetbl_watch->returns(code);
+    }
+    return code;
+}
+
 /* ---- services */
+
+struct CFETBL_Headers;
+
+/* Whether a test was compiled with the library's headers of cFE; else a message of this function says that it wasn't. */
+bool cfetbl_has_headers(const char *function, const struct CFETBL_Headers *headers);
 
 /* Switches on a service for this thread, over these bytes or over zeros. */
 bool cfetbl_open(const void *bank);

@@ -77,8 +77,18 @@ static CFE_Status_t code_of(uint32_t status)
 /* Ends a call with the code of a status. */
 static CFE_Status_t left(uint32_t status)
 {
+    CFE_Status_t code = cfetbl_returned(code_of(status));
+
     cfetbl_leave();
-    return code_of(status);
+    return code;
+}
+
+/* The same with a code that no status has. */
+static CFE_Status_t left_with(CFE_Status_t code)
+{
+    (void)cfetbl_returned(code);
+    cfetbl_leave();
+    return code;
 }
 
 /* A call with a handle alone. */
@@ -148,8 +158,7 @@ CFE_Status_t CFETBL_TBL_Register(CFE_TBL_Handle_t *TblHandlePtr, const char *Nam
     }
     status = code_of(register_table(service, &handle, Name, Size, TblOptionFlags, (cfetbl_function)TblValidationFuncPtr));
     *TblHandlePtr = (CFE_TBL_Handle_t)handle;
-    cfetbl_leave();
-    return status;
+    return left_with(status);
 }
 
 CFE_Status_t CFETBL_TBL_Share(CFE_TBL_Handle_t *TblHandlePtr, const char *TblName)
@@ -198,10 +207,7 @@ CFE_Status_t CFETBL_TBL_Unregister(CFE_TBL_Handle_t TblHandle)
 /* A load that its validation function refused is answered with what that said. */
 static CFE_Status_t loaded(struct cfetbl_service *service, uint32_t status)
 {
-    CFE_Status_t code = status == CFETBL_ERR_VALIDATION_FAILED ? (CFE_Status_t)cfetbl_reply(service).detail : code_of(status);
-
-    cfetbl_leave();
-    return code;
+    return left_with(status == CFETBL_ERR_VALIDATION_FAILED ? (CFE_Status_t)cfetbl_reply(service).detail : code_of(status));
 }
 
 static CFE_Status_t load_image(struct cfetbl_service *service, uint16_t number, const void *image)
@@ -223,8 +229,7 @@ static CFE_Status_t load_file(struct cfetbl_service *service, uint16_t handle, c
     struct cfetbl_record record;
 
     if (strlen(file) > CFETBL_FILE_NAME) {
-        cfetbl_leave();
-        return CFE_TBL_ERR_FILENAME_TOO_LONG;
+        return left_with(CFE_TBL_ERR_FILENAME_TOO_LONG);
     }
     record = cfetbl_begin(service, CFETBL_KIND_LOAD_FILE, cfetbl_app(service));
     cfetbl_put_number(&record, handle, 2);
@@ -250,8 +255,7 @@ CFE_Status_t CFETBL_TBL_Load(CFE_TBL_Handle_t TblHandle, CFE_TBL_SrcEnum_t SrcTy
     case CFE_TBL_SRC_ADDRESS:
         return load_image(service, (uint16_t)TblHandle, SrcDataPtr);
     default:
-        cfetbl_leave();
-        return CFE_TBL_ERR_ILLEGAL_SRC_TYPE;
+        return left_with(CFE_TBL_ERR_ILLEGAL_SRC_TYPE);
     }
 }
 
@@ -339,8 +343,7 @@ CFE_Status_t CFETBL_TBL_GetAddresses(void **TblPtrs[], uint16 NumTables, const C
 
         first = first == CFE_SUCCESS ? status : first;
     }
-    cfetbl_leave();
-    return first;
+    return left_with(first);
 }
 
 CFE_Status_t CFETBL_TBL_ReleaseAddresses(uint16 NumTables, const CFE_TBL_Handle_t TblHandles[])
@@ -361,8 +364,7 @@ CFE_Status_t CFETBL_TBL_ReleaseAddresses(uint16 NumTables, const CFE_TBL_Handle_
 
         first = first == CFE_SUCCESS ? status : first;
     }
-    cfetbl_leave();
-    return first;
+    return left_with(first);
 }
 
 CFE_Status_t CFETBL_TBL_Modified(CFE_TBL_Handle_t TblHandle)

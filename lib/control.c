@@ -13,20 +13,28 @@ extern const struct CFETBL_Headers cfetbl_headers;
 
 /* ---- the service */
 
-bool CFETBL_OpenFor(const void *bank, const struct CFETBL_Headers *headers)
+bool cfetbl_has_headers(const char *function, const struct CFETBL_Headers *headers)
 {
     if (headers->info != cfetbl_headers.info) {
-        cfetbl_say("CFETBL_Open: CFE_TBL_Info_t has %u bytes in the test and %u in the library: compile cfetbl.c with the test's "
-                   "headers of cFE",
-                   (unsigned)headers->info, (unsigned)cfetbl_headers.info);
+        cfetbl_say("%s: CFE_TBL_Info_t has %u bytes in the test and %u in the library: compile cfetbl.c with the test's headers of cFE",
+                   function, (unsigned)headers->info, (unsigned)cfetbl_headers.info);
         return false;
     }
     if (memcmp(headers, &cfetbl_headers, sizeof *headers) != 0) {
-        cfetbl_say("CFETBL_Open: handles or sizes have other types in the test than in the library: compile cfetbl.c with the test's "
-                   "headers of cFE");
+        cfetbl_say("%s: handles or sizes have other types in the test than in the library: compile cfetbl.c with the test's headers of "
+                   "cFE",
+                   function);
         return false;
     }
-    return cfetbl_open(bank);
+    return true;
+}
+
+bool CFETBL_OpenFor(const void *bank, const struct CFETBL_Headers *headers)
+{
+    if (cfetbl_watch != NULL) {
+        cfetbl_watch->forbidden("CFETBL_Open");
+    }
+    return cfetbl_has_headers("CFETBL_Open", headers) && cfetbl_open(bank);
 }
 
 void CFETBL_Close(void)
@@ -35,6 +43,9 @@ void CFETBL_Close(void)
 
     if (service == NULL) {
         return;
+    }
+    if (cfetbl_watch != NULL) {
+        cfetbl_watch->forbidden("CFETBL_Close");
     }
     if (!cfetbl_is_judging(service, "CFETBL_Close")) {
         cfetbl_close(service);

@@ -4,12 +4,6 @@
 
 #include <string.h>
 
-/* The directory, and the places of fields in an entry. */
-enum { DIRECTORY = 16, ENTRIES = 128, ENTRY = 64, OPEN_GATE = 0xA5, OFFSET_PLACE = 4, SIZE_PLACE = 8, NAME_PLACE = 12 };
-
-/* How far a block's second place is from its first, and how many bytes its head has. */
-enum { SECOND = 131072, HEAD = 8 };
-
 bool cfetbl_damage(uint8_t *bank, const char *name)
 {
     char field[CFETBL_FULL_NAME] = {0};
@@ -17,16 +11,16 @@ bool cfetbl_damage(uint8_t *bank, const char *name)
     int slot;
 
     memcpy(field, name, strlen(name) < sizeof field ? strlen(name) : sizeof field);
-    for (slot = 0; slot < ENTRIES; slot++) {
-        const uint8_t *entry = bank + DIRECTORY + slot * ENTRY;
-        uint32_t offset = cfetbl_number_at(entry + OFFSET_PLACE, 4), size = cfetbl_number_at(entry + SIZE_PLACE, 4);
+    for (slot = 0; slot < CFETBL_SLOTS; slot++) {
+        const uint8_t *entry = bank + CFETBL_DIRECTORY + slot * CFETBL_ENTRY;
+        uint32_t offset = cfetbl_number_at(entry + CFETBL_OFFSET_PLACE, 4), size = cfetbl_number_at(entry + CFETBL_BLOCK_SIZE_PLACE, 4);
 
-        if (entry[0] != OPEN_GATE || memcmp(entry + NAME_PLACE, field, sizeof field) != 0) {
+        if (entry[0] != CFETBL_OPEN_GATE || memcmp(entry + CFETBL_NAME_PLACE, field, sizeof field) != 0) {
             continue;
         }
-        if (size > 0 && size <= CFETBL_IMAGE_LIMIT && offset <= SECOND - HEAD - size) {
-            bank[offset + HEAD] ^= 0xFF;
-            bank[SECOND + offset + HEAD] ^= 0xFF;
+        if (size > 0 && size <= CFETBL_IMAGE_LIMIT && offset <= CFETBL_SECOND_PLACE - CFETBL_HEAD - size) {
+            bank[offset + CFETBL_HEAD] ^= 0xFF;
+            bank[CFETBL_SECOND_PLACE + offset + CFETBL_HEAD] ^= 0xFF;
             is_found = true;
         }
     }

@@ -149,6 +149,23 @@ static int answer_next(struct play *play, const struct tbl_told *question)
     return TBL_OK;
 }
 
+/* Hands the record and its verdicts to the service. */
+static int step(struct play *play, struct tbl_told *told)
+{
+    struct cfetbl_service *service = play->service;
+    int status;
+
+    if (cfetbl_watch != NULL) {
+        cfetbl_watch->before(service, &play->record);
+    }
+    status = tbl_step(service->handle, play->record.at, play->record.length, play->verdicts, play->count, service->entry,
+                      CFETBL_ENTRY_LIMIT, told);
+    if (cfetbl_watch != NULL) {
+        cfetbl_watch->after(service);
+    }
+    return status;
+}
+
 /* Plays the record with the verdicts that it asks for. Its entry comes into the room that the last answer of a call doesn't stand in. */
 static int play_answered(struct play *play)
 {
@@ -158,8 +175,7 @@ static int play_answered(struct play *play)
 
     for (;;) {
         service->entry = service->answered == service->rooms[0] ? service->rooms[1] : service->rooms[0];
-        status = tbl_step(service->handle, play->record.at, play->record.length, play->verdicts, play->count, service->entry,
-                          CFETBL_ENTRY_LIMIT, &told);
+        status = step(play, &told);
         if (status != TBL_VERDICT_MISSING) {
             return status;
         }

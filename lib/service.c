@@ -38,6 +38,8 @@ static THREAD_LOCAL int chosen_app;
 
 static THREAD_LOCAL char message[256];
 
+const struct cfetbl_watch *cfetbl_watch;
+
 void cfetbl_say(const char *format, ...)
 {
     va_list words;
@@ -107,6 +109,8 @@ struct cfetbl_service *cfetbl_enter(const char *function)
     if (service == NULL) {
         say_which(function);
         pthread_mutex_unlock(&lock);
+    } else if (cfetbl_watch != NULL) {
+        cfetbl_watch->begins(function);
     }
     return service;
 }
@@ -157,6 +161,7 @@ struct cfetbl_service *cfetbl_enter_call(enum cfetbl_call call, int32_t *code)
     }
     cfetbl_forget_answer(service);
     if (is_forced(service, call, code)) {
+        (void)cfetbl_returned(*code);
         cfetbl_leave();
         return NULL;
     }
@@ -349,8 +354,7 @@ const uint8_t *cfetbl_bank(struct cfetbl_service *service)
     return service->bank;
 }
 
-/* Lets the applications run in a service that was opened again, and puts the files there. */
-static bool carry_over(struct cfetbl_service *service)
+bool cfetbl_carry_over(struct cfetbl_service *service)
 {
     struct cfetbl_record record;
     const struct cfetbl_file *file;
@@ -410,7 +414,7 @@ bool cfetbl_reopen(struct cfetbl_service *service)
         return false;
     }
     service->handle = opened;
-    if (!carry_over(service)) {
+    if (!cfetbl_carry_over(service)) {
         service->handle = before;
         close_handle(opened);
         return false;
