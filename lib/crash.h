@@ -193,6 +193,7 @@ struct crash {
     enum crash_mode mode;
     struct crash_play *play;
     bool is_restart;
+    bool has_ended; /* the scenario has returned */
     int link;
     uint32_t step, written, number, made;
     const char *name;

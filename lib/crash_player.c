@@ -47,7 +47,9 @@ static void give_up(const char *format, ...)
     struct crash_shared *shared = at_work->shared;
     va_list words;
 
-    keep_call(&shared->where);
+    if (!at_work->has_ended) {
+        keep_call(&shared->where);
+    }
     va_start(words, format);
     vsnprintf(shared->wrong, sizeof shared->wrong, format, words);
     va_end(words);
@@ -255,23 +257,27 @@ static const char *part(void)
     return at_work->is_restart ? "the restart" : "the scenario";
 }
 
+/* An invariant makes no call. */
+static void look_who_calls(const char *name)
+{
+    at_work->name = at_work->shared->name = name;
+    if (at_work->mode == CRASH_IS_ASKED) {
+        at_work->has_ended = false;
+        give_up("the invariant calls %s: it looks at what the application has in its memory, and makes no call", name);
+    }
+}
+
 static void begins(const char *name)
 {
     at_work->shared->beats += 1;
-    at_work->name = at_work->shared->name = name;
-    if (at_work->mode == CRASH_IS_ASKED) {
-        give_up("the invariant calls %s: it looks at what the application has in its memory, and makes no call", name);
-    }
+    look_who_calls(name);
     at_work->number += 1;
     at_work->shared->number = at_work->number;
 }
 
 static void forbidden(const char *name)
 {
-    at_work->name = name;
-    if (at_work->mode == CRASH_IS_ASKED) {
-        give_up("the invariant calls %s: it looks at what the application has in its memory, and makes no call", name);
-    }
+    look_who_calls(name);
     give_up("%s calls %s: the service is on in a crash test, and stays so", part(), name);
 }
 
@@ -457,6 +463,7 @@ void crash_run_player(struct crash *crash, enum crash_mode mode, struct crash_pl
     } else {
         crash->scenario(crash->options.context);
     }
+    crash->has_ended = true;
     service = cfetbl_enter_if_on();
     if (service == NULL) {
         give_up("%s has left the service of the crash test", part());

@@ -41,22 +41,26 @@ void *crash_grow(struct crash *crash, void *at, size_t *room, size_t count, size
 
 /* ---- what is known of states */
 
+static void add_word(uint64_t sum[2], uint64_t word)
+{
+    sum[0] = (sum[0] ^ word) * 0x9E3779B97F4A7C15u;
+    sum[0] ^= sum[0] >> 32;
+    sum[1] = (sum[1] + word) * 0xC2B2AE3D27D4EB4Fu;
+    sum[1] ^= sum[1] >> 29;
+}
+
 static void add_bytes(uint64_t sum[2], const void *bytes, size_t length)
 {
     const uint8_t *at = bytes;
     uint64_t word;
 
-    for (; length > 0; at += sizeof word) {
-        size_t part = length < sizeof word ? length : sizeof word;
-
-        word = 0;
-        memcpy(&word, at, part);
-        sum[0] = (sum[0] ^ word) * 0x9E3779B97F4A7C15u;
-        sum[0] ^= sum[0] >> 32;
-        sum[1] = (sum[1] + word) * 0xC2B2AE3D27D4EB4Fu;
-        sum[1] ^= sum[1] >> 29;
-        length -= part;
+    for (; length >= sizeof word; length -= sizeof word, at += sizeof word) {
+        memcpy(&word, at, sizeof word);
+        add_word(sum, word);
     }
+    word = 0;
+    memcpy(&word, at, length);
+    add_word(sum, word);
 }
 
 /* A sum over a state, of 128 bits, and of what its restart is asked. */
