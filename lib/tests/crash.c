@@ -201,6 +201,7 @@ static void try_notes(void)
     EXPECT(report.power_ons == report.write_count && report.faults == report.resets && noted.copies == 0);
     CFETBL_FreeReport(&report);
     CFETBL_StoreLikeCfe(true);
+    options.every = 6; /* inside images too */
     EXPECT(CFETBL_ForEachReset(noting, restart, is_kept, &options, &report) && report.failed > 0);
     EXPECT(report.findings[0].place.write == 7 && strstr(report.findings[0].answers, "CFE_ES_CDS_BLOCK_CRC_ERR") != NULL);
     CFETBL_FreeReport(&report);
@@ -342,7 +343,7 @@ static void more_calls(void *context)
 static void dying(void *context)
 {
     scenario(context);
-    raise(SIGSEGV);
+    raise(SIGUSR1);
 }
 
 static void leaving(void *context)
@@ -407,7 +408,7 @@ static void try_unfit(void)
 {
     expect_message(NULL, restart, holds, "the scenario is missing");
     expect_message(scenario, NULL, holds, "the restart is missing");
-    expect_message(dying, restart, holds, "the scenario was ended by signal 11 ");
+    expect_message(dying, restart, holds, "the scenario was ended by signal 10 ");
     expect_message(leaving, restart, holds, "the scenario ended its process with status 5, after call 7, CFE_TBL_Load");
     expect_message(waiting, restart, holds, "the scenario made no call for ");
     expect_message(opening, restart, holds, "the scenario calls CFETBL_Open: the service is on in a crash test");
@@ -423,7 +424,7 @@ static CFE_Status_t dying_restart(void *context)
     CFE_Status_t status = restart(context);
 
     if (status == CFE_TBL_INFO_RECOVERED_TBL) {
-        raise(SIGSEGV);
+        raise(SIGUSR1);
     }
     return status;
 }
@@ -440,7 +441,7 @@ static void try_dying(void)
     struct CFETBL_CrashReport report;
 
     EXPECT(CFETBL_ForEachReset(scenario, dying_restart, holds, &options, &report) && report.failed > 0);
-    EXPECT(report.findings[0].outcome == CFETBL_CRASH_DIES && strstr(report.findings[0].why, "the restart was ended by signal 11 ") != NULL);
+    EXPECT(report.findings[0].outcome == CFETBL_CRASH_DIES && strstr(report.findings[0].why, "the restart was ended by signal 10 ") != NULL);
     CFETBL_FreeReport(&report);
     EXPECT(CFETBL_ForEachReset(scenario, leaving_restart, NULL, &options, &report) && report.failed == report.tried);
     EXPECT(strcmp(report.findings[0].why, "the restart ended its process with status 9") == 0);

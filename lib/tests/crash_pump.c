@@ -71,7 +71,7 @@ static void try_all(const struct expected *list, size_t count)
         EXPECT(finding->place.write == list[place].write && finding->place.first == list[place].first);
         EXPECT(finding->place.last == list[place].last && finding->count == list[place].last - list[place].first + 1);
         EXPECT(finding->outcome != CFETBL_CRASH_NOT_UP || finding->returned == CFE_TBL_ERR_NEVER_LOADED);
-        EXPECT(strstr(finding->place.line, "pump.c:") != NULL || strstr(finding->place.line, "+0x") != NULL);
+        EXPECT(strstr(finding->place.line, "pump") != NULL || strstr(finding->place.line, "+0x") != NULL);
     }
     CFETBL_FreeReport(&report);
 }

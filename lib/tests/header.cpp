@@ -1,5 +1,6 @@
 // header.cpp: the headers, and some calls of each kind, from C++17.
 #include "cfetbl.h"
+#include "cfetbl_crash.h"
 #include "expect.h"
 #include "tbl.h"
 
@@ -9,6 +10,19 @@
 static int32 not_zero(void *image)
 {
     return *static_cast<const uint8 *>(image) == 0 ? -17 : CFE_SUCCESS;
+}
+
+static void start_one(void *)
+{
+    CFE_ES_CDSHandle_t block = CFE_ES_CDS_BAD_HANDLE;
+
+    EXPECT(CFETBL_StartApp(1, "A") && CFE_ES_RegisterCDS(&block, 8, "B") >= CFE_SUCCESS);
+}
+
+static CFE_Status_t start_again(void *context)
+{
+    start_one(context);
+    return CFE_SUCCESS;
 }
 
 int main()
@@ -22,6 +36,7 @@ int main()
     CFETBL_Event event{};
     tbl_handle handle{};
     void *address = nullptr;
+    CFETBL_CrashReport report{};
 
     EXPECT(CFETBL_Open(nullptr) && CFETBL_StartApp(1, "A"));
     EXPECT(CFE_TBL_Register(&table, "T", one.size(), CFE_TBL_OPT_DBL_BUFFER, not_zero) == CFE_SUCCESS);
@@ -40,5 +55,7 @@ int main()
     CFETBL_Close();
     EXPECT(tbl_bank(&handle, 0, bytes.data(), bytes.size()) == TBL_CLOSED);
     tbl_close(&handle);
+    EXPECT(CFETBL_ForEachReset(start_one, start_again, nullptr, nullptr, &report) && report.resets == 64 && report.failed == 0);
+    CFETBL_FreeReport(&report);
     return expected();
 }
