@@ -87,6 +87,7 @@ static bool judge_fault(struct crash *crash, struct crash_end *end)
     } else if (shared->result.stage == CRASH_DONE && !shared->result.holds) {
         end->outcome = CFETBL_CRASH_BROKEN;
         snprintf(end->why, sizeof end->why, "at the end, without a reset: %.200s", shared->result.why);
+        crash_make_line(end->why);
     }
     return end->outcome == CFETBL_CRASH_HOLDS;
 }
@@ -264,6 +265,7 @@ static void try_end(struct crash *crash)
     if (crash->options.asks_at_end) {
         end.outcome = shared->result.holds ? CFETBL_CRASH_HOLDS : CFETBL_CRASH_BROKEN;
         memcpy(end.why, shared->result.why, sizeof end.why - 1);
+        crash_make_line(end.why);
         crash_note(crash, &trouble, &end);
     }
     crash_copy_state(crash->tried, &shared->writes.before, notes_of(crash));
@@ -544,6 +546,7 @@ bool CFETBL_ForEachResetFor(CFETBL_CrashScenario_t scenario, CFETBL_CrashRestart
     report->milliseconds = (uint32_t)(crash_now() - crash.begun);
     free_memory(&crash);
     if (crash.progress != NULL) {
+        CFETBL_ReportText(crash.progress, report);
         CFETBL_ReportJson(crash.progress, report);
         fclose(crash.progress);
     }

@@ -218,6 +218,9 @@ const struct crash_end *crash_try(struct crash *crash, const struct crash_troubl
 /* The same for an end that is known already. */
 void crash_note(struct crash *crash, const struct crash_trouble *trouble, const struct crash_end *end);
 
+/* Makes words of the application one line. */
+void crash_make_line(char *words);
+
 /* The place of a call among those that are kept, at which it is put. */
 size_t crash_keep_call(struct crash *crash, const struct crash_call *call);
 

@@ -133,6 +133,15 @@ static void say_answers(const struct crash_result *result, char *words, size_t r
     }
 }
 
+void crash_make_line(char *words)
+{
+    for (; *words != 0; words++) {
+        if ((unsigned char)*words < 0x20 || *words == 0x7F) {
+            *words = ' ';
+        }
+    }
+}
+
 static const char *part_of(const struct crash_result *result)
 {
     return result->stage == CRASH_ASKS || result->stage == CRASH_DONE ? "the invariant" : "the restart";
@@ -161,6 +170,7 @@ static void judge(struct crash *crash, bool is_within, int status, struct crash_
     } else if (!result->holds) {
         end->outcome = CFETBL_CRASH_BROKEN;
         snprintf(end->why, sizeof end->why, "%.*s", (int)sizeof result->why - 1, result->why);
+        crash_make_line(end->why);
     }
     if (end->outcome != CFETBL_CRASH_HOLDS) {
         say_answers(result, end->answers, sizeof end->answers);

@@ -1,7 +1,7 @@
 # Completion of cfetbl's words, options and files for bash.
 _cfetbl() {
     local current=${COMP_WORDS[COMP_CWORD]} words=''
-    local all='play crew watch drill repl show text make describe file table store resets map report xtce cosmos serve call compare cfe-app states explain test'
+    local all='play crew watch drill repl show text make describe file table store resets map report xtce cosmos serve call compare cfe-app states crash-test explain test'
     COMPREPLY=()
     case $COMP_CWORD:${COMP_WORDS[1]} in
         1:*) words="$all help --help --version --program" ;;
@@ -20,6 +20,7 @@ _cfetbl() {
         *:cosmos) words='-o --cfe-layout --big-endian --event-ids --help' ;;
         *:compare) words='--expect --help' ;;
         *:cfe-app | *:states) words='-o --cover --help' ;;
+        *:crash-test) words='--json --html --help' ;;
         *:drill) words='--store --durable --help' ;;
         *:test) words='--quick --help' ;;
         *:explain | *:file | *:call) words='--help' ;;

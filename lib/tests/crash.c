@@ -13,7 +13,8 @@
 #include <sys/mman.h>
 #include <unistd.h>
 
-enum { SIZE = 8, STEPS = 7, LIMIT = 300 };
+/* The time limits, in milliseconds: one that nothing on a busy machine reaches, and that of what hangs. */
+enum { SIZE = 8, STEPS = 7, LONG = 60000, SHORT = 1000 };
 
 static CFE_TBL_Handle_t table;
 static CFE_ES_CDSHandle_t block;
@@ -80,7 +81,7 @@ static struct CFETBL_CrashOptions few(void)
     struct CFETBL_CrashOptions options = {0};
 
     options.every = getenv("THIN") == NULL ? 4 : 32;
-    options.limit = getenv("THIN") == NULL ? LIMIT : 20 * LIMIT;
+    options.limit = LONG;
     return options;
 }
 
@@ -306,6 +307,7 @@ static void expect_message(CFETBL_CrashScenario_t played, CFETBL_CrashRestart_t 
     struct CFETBL_CrashOptions options = few();
     struct CFETBL_CrashReport report;
 
+    options.limit = strstr(words, " ms") == NULL ? LONG : getenv("THIN") == NULL ? SHORT : 10 * SHORT;
     EXPECT(!CFETBL_ForEachReset(played, called, asked, &options, &report) && !report.is_whole);
     EXPECT_MESSAGE(words);
     EXPECT(strstr(CFETBL_LastMessage(), report.message) != NULL);
@@ -410,10 +412,11 @@ static void try_unfit(void)
     expect_message(scenario, NULL, holds, "the restart is missing");
     expect_message(dying, restart, holds, "the scenario was ended by signal 10 ");
     expect_message(leaving, restart, holds, "the scenario ended its process with status 5, after call 7, CFE_TBL_Load");
-    expect_message(waiting, restart, holds, "the scenario made no call for ");
+    expect_message(waiting, restart, holds, " ms after call 7, CFE_TBL_Load");
     expect_message(opening, restart, holds, "the scenario calls CFETBL_Open: the service is on in a crash test");
     expect_message(closing, restart, holds, "the scenario calls CFETBL_Close");
-    expect_message(scenario, waiting_restart, holds, "3 restarts didn't return within ");
+    expect_message(scenario, waiting_restart, holds, " ms");
+    EXPECT_MESSAGE("3 restarts didn't return within ");
     expect_message(scenario, opening_restart, holds, "the restart calls CFETBL_Open");
     expect_message(scenario, restart, calling, "the invariant calls CFE_TBL_Manage");
 }

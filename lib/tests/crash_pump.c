@@ -9,6 +9,9 @@
 
 #include <stdlib.h>
 
+/* A time limit in milliseconds that nothing reaches on a busy machine. */
+enum { LIMIT = 60000 };
+
 /* Which resets have a finding: those in a write after these numbers of bytes. */
 struct expected {
     enum CFETBL_CrashOutcome outcome;
@@ -55,10 +58,12 @@ static uint32_t failed_of(const struct expected *list, size_t count)
 /* The whole test, each byte of each write. */
 static void try_all(const struct expected *list, size_t count)
 {
+    struct CFETBL_CrashOptions options = {0};
     struct CFETBL_CrashReport report;
     uint32_t sum = 0, place;
 
-    EXPECT(CFETBL_ForEachReset(Scenario, Restart, Invariant, NULL, &report) && report.is_whole);
+    options.limit = LIMIT;
+    EXPECT(CFETBL_ForEachReset(Scenario, Restart, Invariant, &options, &report) && report.is_whole);
     for (place = 0; place < report.write_count; place++) {
         sum += report.writes[place].length;
     }
@@ -84,6 +89,7 @@ static void try_kinds(void)
 
     options.kinds = CFETBL_CRASH_RESET | CFETBL_CRASH_FAULT | CFETBL_CRASH_SECOND_RESET | CFETBL_CRASH_POWER_ON;
     options.inside = 1;
+    options.limit = LIMIT;
     options.every = getenv("THIN") == NULL ? 0 : 64;
     EXPECT(CFETBL_ForEachReset(Scenario, Restart, Invariant, &options, &report));
     EXPECT(report.faults > 0 && report.second_resets > 0 && report.power_ons == WRITES);

@@ -19,7 +19,7 @@ WORDS = {
     "play": "play", "crew": "play", "watch": "watch", "drill": "drill", "resets": "resets", "repl": "repl", "serve": "serve", "call": "call",
     "text": "text", "show": "show", "report": "report", "make": "table_files", "describe": "table_files", "file": "table_files",
     "table": "table", "store": "store", "map": "map", "xtce": "xtce", "cosmos": "cosmos", "compare": "compare", "cfe-app": "cfe_app",
-    "states": "states", "explain": "explain", "test": "test", "help": "help"}
+    "states": "states", "crash-test": "crash_test", "explain": "explain", "test": "test", "help": "help"}
 # What the front command does itself, and the word by which it has the end of a run told.
 OF_THE_FRONT, ENDED = ("--version", "--program"), "--ended"
 HELP = ("-h", "--help")

@@ -50,7 +50,7 @@ def options_of(parser):
 class Tree(unittest.TestCase):
     def test_it_has_the_words_of_the_help(self):
         self.assertEqual(sorted({*command_line.WORDS} - {"help"}), sorted({*overview.words()} - {"help"}))
-        self.assertEqual(len(command_line.WORDS), 25)
+        self.assertEqual(len(command_line.WORDS), 26)
 
     def test_each_word_has_its_own_help(self):
         for word in command_line.WORDS:
