@@ -64,6 +64,7 @@ struct CFETBL_CrashPlace {
     uint32_t last;
     uint32_t length;   /* how many bytes it has */
     uint32_t at;       /* where in preserved memory it begins */
+    uint32_t places;   /* at how many places in it troubles were tried */
     uint32_t call;     /* the number of its call, from 1 */
     char name[32];     /* of the call */
     char line[192];    /* of the application, in which it makes the call, as "app.c:31 (APP_Save)"; addresses where addr2line isn't there */

@@ -240,6 +240,7 @@ static void try_record(struct crash *crash, int depth, const struct crash_proces
         place->write = writes->first + write - 1;
         place->length = piece->length;
         place->at = piece->at;
+        place->places = (piece->length + distance(crash, piece->length) - 1) / distance(crash, piece->length);
         place->call = writes->call.number;
         memcpy(place->name, writes->call.name, sizeof place->name);
         crash_say_write(place->what, writes->before.bank, piece);

@@ -18,7 +18,7 @@
 #include <sys/types.h>
 
 enum {
-    CRASH_STEPS = 262144,
+    CRASH_STEPS = 1 << 18, /* the most records of a scenario */
     CRASH_PIECES = 160, /* a boot may close 128 gates */
     CRASH_FRAMES = 32,
     CRASH_ANSWERS = 24,

@@ -243,6 +243,7 @@ static void put_place(FILE *to, const char *name, const struct CFETBL_CrashPlace
     put_number(to, "last", place->last);
     put_number(to, "length", place->length);
     put_number(to, "at", place->at);
+    put_number(to, "places", place->places);
     put_number(to, "call", place->call);
     put_text(to, "name", place->name);
     fputc(',', to);

@@ -18,7 +18,8 @@ FINDING_HEADS = ("finding", "trouble", "what comes", "the restart was answered")
 STYLE = """\
 .holds { --color: var(--validated); } .not-up { --color: var(--refused); } .broken { --color: var(--open); }
 .hangs { --color: var(--rejected); } .dies { --color: var(--reset); }
-.writes { width: 100%; } .writes th:nth-child(6) { width: 26%; } .writes th:nth-child(7) { width: 26%; }
+.writes { width: 100%; } .writes th:nth-child(6) { width: 24%; } .writes th:nth-child(7) { width: 24%; }
+@media (min-width: 1000px) { .writes th:nth-child(-n+2), .writes td:nth-child(3) { white-space: nowrap; } }
 .bytes { display: flex; min-width: 160px; margin-top: 2px; }
 .bytes .bar { flex: 1 1 0; min-width: 4px; height: 17px; margin-right: 1px; }
 """
@@ -30,12 +31,14 @@ class NoReport(Exception):
 
 @dataclass(frozen=True)
 class Place:
-    """A write, and after how many of its bytes a trouble comes: from the first to the last number. One of no bytes is the scenario's end."""
+    """A write, and after how many of its bytes a trouble comes: from the first to the last number. One of no bytes is the scenario's end.
+    Troubles were tried at so many places in it."""
     write: int
     first: int
     last: int
     length: int
     at: int
+    places: int
     call: int
     name: str
     line: str
@@ -44,6 +47,15 @@ class Place:
     @property
     def after(self) -> str:
         return f"{self.first} to {self.last}" if self.first != self.last else str(self.first)
+
+    @property
+    def step(self) -> int:
+        """How many bytes are between the places that were tried."""
+        return -(-self.length // self.places) if self.places else 1
+
+    @property
+    def bytes(self) -> str:
+        return str(self.length) if self.step == 1 else f"{self.length} (each {self.step}. tried)"
 
 
 @dataclass(frozen=True)
@@ -154,13 +166,15 @@ def _bar(write, findings) -> str:
 
 
 def _spans(write, findings) -> Iterator[tuple[int, int, str, str]]:
-    """The bytes of a write in pieces by what comes of a reset after them. What has no finding holds."""
+    """The bytes of a write in pieces by what comes of a reset after them. What has no finding holds. Where not each byte was tried, what
+    comes at one goes up to the next."""
     at = 0
     for it in sorted(findings, key=lambda it: it.place.first):
+        last = min(it.place.last + write.step, write.length) - 1
         if it.place.first > at:
             yield at, it.place.first - 1, "holds", OUTCOMES["holds"][1]
-        yield it.place.first, it.place.last, it.outcome, it.words
-        at = it.place.last + 1
+        yield it.place.first, last, it.outcome, it.words
+        at = last + 1
     if at < write.length:
         yield at, write.length - 1, "holds", OUTCOMES["holds"][1]
 
@@ -170,7 +184,7 @@ def _rows(report) -> Iterator[tuple[str, ...]]:
         found = [(number, it) for number, it in enumerate(report.findings, 1) if it.place.write == write.write and it.place.length]
         resets = [it for _, it in found if it.kind == "reset"]
         said = [element("div", text(f"{number}. {it.kind} after {it.place.after}: {it.words}")) for number, it in found]
-        yield (*map(text, (str(write.write), str(write.length), f"{write.call} {write.name}", write.line, write.what)), _bar(write, resets), "".join(said))
+        yield (*map(text, (str(write.write), write.bytes, f"{write.call} {write.name}", write.line, write.what)), _bar(write, resets), "".join(said))
 
 
 def _finding_rows(report) -> Iterator[tuple[str, ...]]:

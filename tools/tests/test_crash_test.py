@@ -17,7 +17,7 @@ TEXT = ["crash test over the service's own store: the scenario makes 3 calls, wi
 
 
 def place(write, first, last, length, **more):
-    return {"write": write, "first": first, "last": last, "length": length, "at": 145, "call": 2, "name": "CFE_TBL_Load",
+    return {"write": write, "first": first, "last": last, "length": length, "at": 145, "places": length, "call": 2, "name": "CFE_TBL_Load",
             "line": "app.c:31 (APP_Save)", "what": "image of APP.T"} | more
 
 
@@ -56,6 +56,14 @@ class Page(unittest.TestCase):
         self.assertEqual(spans[2][:3], [(0, 4, "hangs"), (5, 8, "holds"), (9, 15, "dies")])
         # Both tests have the same writes.
         self.assertEqual({write: sum(last - first + 1 for first, last, _ in it) for write, it in spans.items()}, {1: 126, 2: 32, 3: 2})
+
+    def test_places_that_were_not_tried(self):
+        """What comes at a place goes up to the next one that was tried."""
+        where = place(1, 0, 0, 63, places=8)
+        told = report(finding("reset", "not up", place(1, 16, 24, 63, places=8)), writes=[where])
+        page = crashes.html("app_test", [crashes.read(told, TEXT)])
+        self.assertEqual([it[1:] for it in ELEMENT.findall(page)], [("0", "15", "holds"), ("16", "31", "not up"), ("32", "62", "holds")])
+        self.assertIn("63 (each 8. tried)", page)
 
     def test_what_it_says(self):
         page = crashes.html("app_test", reports()[:1])
