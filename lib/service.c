@@ -1,6 +1,6 @@
 /* SPDX-License-Identifier: Apache-2.0 */
-/* service.c: services: which one a thread calls, the records that requests are made of, and the handle that a service is opened over. It and
- * playing.c alone call tbl.h. */
+/* service.c: services: which one a thread calls, the records that requests are made of, and the handle that a service is opened over. Beside
+ * playing.c and crash tests, it alone calls tbl.h. */
 #include "cfetbl_service.h"
 #include "tbl.h"
 
