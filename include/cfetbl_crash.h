@@ -114,8 +114,8 @@ bool CFETBL_ForEachResetFor(CFETBL_CrashScenario_t scenario, CFETBL_CrashRestart
                             const struct CFETBL_Headers *headers);
 
 /* Tries each trouble. It returns true if all were tried, whatever was found. Else a message says why not, and the report has what was tried
- * so far: if the scenario makes other calls each time it is played, doesn't go on or ends its process, if three restarts hang, if the
- * invariant makes a call, or out of memory. Without an invariant it is asked only whether the application comes up. Options may be NULL.
+ * so far: if the scenario makes other calls each time it is played, doesn't go on or ends its process, if the application hangs three
+ * times, if the invariant makes a call, or out of memory. Without an invariant it is asked only whether the application comes up. Options may be NULL.
  * CFETBL_FreeReport frees what the report has in any case. */
 static inline bool CFETBL_ForEachReset(CFETBL_CrashScenario_t scenario, CFETBL_CrashRestart_t restart, CFETBL_CrashInvariant_t invariant,
                                        const struct CFETBL_CrashOptions *options, struct CFETBL_CrashReport *report)

@@ -156,7 +156,6 @@ static void judge(struct crash *crash, bool is_within, int status, struct crash_
     memset(end, 0, sizeof *end);
     end->returned = result->stage >= CRASH_RETURNED ? result->code : 0;
     if (!is_within) {
-        crash->hangs += 1;
         end->outcome = CFETBL_CRASH_HANGS;
         snprintf(end->why, sizeof end->why, "%s didn't return within %u ms", part_of(result), (unsigned)crash->options.limit);
     } else if (status != 0 && (is_asked || has_returned)) {
@@ -292,6 +291,10 @@ static void count(struct crash *crash, const struct crash_trouble *trouble, size
         find(crash, trouble, end);
     }
     crash_say_progress(crash);
+    crash->hangs += crash->ends[end].outcome == CFETBL_CRASH_HANGS;
+    if (crash->hangs == CRASH_HANGS) {
+        crash_stop(crash, "%d times the application didn't return within %u ms", CRASH_HANGS, (unsigned)crash->options.limit);
+    }
 }
 
 void crash_note(struct crash *crash, const struct crash_trouble *trouble, const struct crash_end *end)
@@ -327,9 +330,6 @@ const struct crash_end *crash_try(struct crash *crash, const struct crash_troubl
         crash->known_count += 1;
     }
     count(crash, trouble, known->end - 1);
-    if (crash->hangs == CRASH_HANGS) {
-        crash_stop(crash, "%d restarts didn't return within %u ms", CRASH_HANGS, (unsigned)crash->options.limit);
-    }
     return &crash->ends[known->end - 1];
 }
 

@@ -417,7 +417,7 @@ static void try_unfit(void)
     expect_message(opening, restart, holds, "the scenario calls CFETBL_Open: the service is on in a crash test");
     expect_message(closing, restart, holds, "the scenario calls CFETBL_Close");
     expect_message(scenario, waiting_restart, holds, " ms");
-    EXPECT_MESSAGE("3 restarts didn't return within ");
+    EXPECT_MESSAGE("3 times the application didn't return within ");
     expect_message(scenario, opening_restart, holds, "the restart calls CFETBL_Open");
     expect_message(scenario, restart, calling, "the invariant calls CFE_TBL_Manage");
 }
@@ -452,6 +452,44 @@ static void try_dying(void)
     CFETBL_FreeReport(&report);
 }
 
+/* What an application does after a fault is looked at too. */
+static void stuck_after_fault(void *context)
+{
+    (void)context;
+    step(0);
+    if (CFE_ES_RegisterCDS(&block, SIZE, "B") == CFE_SUCCESS && CFE_ES_CopyToCDS(block, "AAAAAAAA") != CFE_SUCCESS) {
+        waiting(context);
+    }
+}
+
+static void dying_after_fault(void *context)
+{
+    (void)context;
+    step(0);
+    if (CFE_ES_RegisterCDS(&block, SIZE, "B") == CFE_SUCCESS && CFE_ES_CopyToCDS(block, "AAAAAAAA") != CFE_SUCCESS) {
+        raise(SIGUSR1);
+    }
+}
+
+static void expect_after_fault(CFETBL_CrashScenario_t played, enum CFETBL_CrashOutcome outcome, const char *words)
+{
+    struct CFETBL_CrashOptions options = few();
+    struct CFETBL_CrashReport report;
+
+    options.kinds = CFETBL_CRASH_FAULT;
+    options.every = 64;
+    options.limit = getenv("THIN") == NULL ? SHORT : 10 * SHORT;
+    EXPECT(CFETBL_ForEachReset(played, restart, holds, &options, &report) && report.faults == 4);
+    EXPECT(report.finding_count > 0 && report.findings[0].outcome == outcome && strstr(report.findings[0].why, words) != NULL);
+    CFETBL_FreeReport(&report);
+}
+
+static void try_after_fault(void)
+{
+    expect_after_fault(stuck_after_fault, CFETBL_CRASH_HANGS, "after the fault the scenario made no call for ");
+    expect_after_fault(dying_after_fault, CFETBL_CRASH_DIES, "after the fault the scenario was ended by signal 10 ");
+}
+
 /* The test's own service and memory stay as they are. */
 static void try_apart(void)
 {
@@ -476,6 +514,7 @@ int main(void)
     try_other_plays();
     try_unfit();
     try_dying();
+    try_after_fault();
     try_apart();
     return expected();
 }
