@@ -2,6 +2,8 @@
 /* main.c: records from standard input, entries to standard output. It has its words from the command line. */
 #include "serving.h"
 
+#include "cfetbl_service.h"
+
 #include <errno.h>
 #include <signal.h>
 #include <stdarg.h>
@@ -12,14 +14,11 @@
 
 enum {
     HEAD = 4,
-    KIND_RESET = 0x04,
-    KIND_REGISTER = 0x11,
     POWER_ON = 2,
     /* Where a Register has the number of its validation function, and a number under which no function is. */
     VALIDATOR_AT = 22,
     NO_FUNCTION = 0xFE,
     INPUT_ROOM = 1 << 17,
-    ENTRY_ROOM = 2162688,
     END = 13,
     LONGEST_LINE = 2048,
     USUAL_LIMIT = 1000,
@@ -141,7 +140,7 @@ static void look_for_function(const struct service *service, uint8_t *record, si
 {
     uint8_t *number = record + HEAD + VALIDATOR_AT;
 
-    if (record[0] == KIND_REGISTER && length == HEAD + VALIDATOR_AT + 1 && *number != TBL_NO_VALIDATOR &&
+    if (record[0] == CFETBL_KIND_REGISTER && length == HEAD + VALIDATOR_AT + 1 && *number != TBL_NO_VALIDATOR &&
         (*number >= CFETBL_APP_NUMBERS || service->judge.library.names[*number][0] == 0)) {
         *number = NO_FUNCTION;
     }
@@ -155,7 +154,7 @@ static int step(struct service *service, const uint8_t *record, size_t length, s
     int status;
 
     for (;;) {
-        status = tbl_step(&service->handle, record, length, verdicts, count, service->entry, ENTRY_ROOM, told);
+        status = tbl_step(&service->handle, record, length, verdicts, count, service->entry, CFETBL_ENTRY_LIMIT, told);
         if (status != TBL_VERDICT_MISSING || count == TBL_QUESTIONS) {
             return status;
         }
@@ -169,7 +168,7 @@ static int step(struct service *service, const uint8_t *record, size_t length, s
 /* Plays a record and writes its entry. DONE, or the status of the program. */
 static int answer(struct service *service, uint8_t *record, size_t length)
 {
-    bool is_power_on = record[0] == KIND_RESET && length > HEAD && record[HEAD] == POWER_ON;
+    bool is_power_on = record[0] == CFETBL_KIND_RESET && length > HEAD && record[HEAD] == POWER_ON;
     struct tbl_told told;
     int status;
 
@@ -279,7 +278,7 @@ static int open_and_serve(struct service *service, const struct words *words)
     int status;
 
     service->input = malloc(INPUT_ROOM);
-    service->entry = malloc(ENTRY_ROOM);
+    service->entry = malloc(CFETBL_ENTRY_LIMIT);
     service->judge.path = path_of(words->app);
     service->judge.limit = words->limit;
     if (service->input == NULL || service->entry == NULL || service->judge.path == NULL) {

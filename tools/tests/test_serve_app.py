@@ -5,6 +5,7 @@ import glob
 import io
 import os
 import resource
+import shutil
 import signal
 import struct
 import subprocess
@@ -270,6 +271,14 @@ class Functions(WithLibraries):
                 status, written, said = self.run_program(b"", path, folder=folder)
                 self.assertEqual((status, written, said.count("\n"), why in said), (2, b"", 1, True), said)
         self.assertEqual(os.listdir(folder), ["text.so"])
+
+    def test_compilers(self):
+        """The sources give no compiler a warning."""
+        for compiler in filter(shutil.which, ("gcc", "clang")):
+            for source in sorted(glob.glob(os.path.join(recorded.TOP, "lib", "serving", "*.c"))):
+                done = subprocess.run([compiler, "-std=c11", "-O2", "-Wall", "-Wextra", "-Werror", f"-I{INCLUDE}", f"-I{recorded.TOP}/lib", "-c", source, "-o",
+                                       os.devnull], capture_output=True, text=True, check=False)
+                self.assertEqual((done.returncode, done.stderr), (0, ""))
 
     def test_words(self):
         for words in ([], ["--app"], ["--app", "x", "more"], ["--app", "x", "--app-limit", "0"], ["--app", "x", "--app-limit", "1e9"]):
