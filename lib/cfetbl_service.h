@@ -320,7 +320,7 @@ void cfetbl_free_files(struct cfetbl_files *files);
 
 /* ---- damaged blocks: damage.c */
 
-/* Where the directory of the Critical Data Store begins, its entries and the places of their fields, as docs/STORE.md lays them out; how far
+/* Where the directory of the Critical Data Store begins, its entries and the places of their fields, as docs/reference/store.md lays them out; how far
  * a block's second place is from its first; and how many bytes the head before an image has. */
 enum {
     CFETBL_DIRECTORY = 16,

@@ -1,5 +1,5 @@
 /* SPDX-License-Identifier: Apache-2.0 */
-/* crash_store.c: what a trouble in a write leaves in preserved memory, which docs/STORE.md lays out, and in which words a write is told. */
+/* crash_store.c: what a trouble in a write leaves in preserved memory, which docs/reference/store.md lays out, and in which words a write is told. */
 #include "crash.h"
 
 #include <stdio.h>

@@ -1,6 +1,6 @@
 /* SPDX-License-Identifier: Apache-2.0 */
 /* store.c: the store file behind a service whose preserved memory is in memory. What a request changed there is written before the request
- * is answered, in the order of docs/STORE.md: first what closes a block, then bytes that no open entry has, and last what opens them. */
+ * is answered, in the order of docs/reference/store.md: first what closes a block, then bytes that no open entry has, and last what opens them. */
 #define _GNU_SOURCE
 #include "serving.h"
 
@@ -13,7 +13,7 @@
 #include <sys/stat.h>
 #include <unistd.h>
 
-/* Where things are in the bank, as docs/STORE.md has it. */
+/* Where things are in the bank, as docs/reference/store.md has it. */
 enum {
     HEADER = 16,
     VERSION_AT = 3,
