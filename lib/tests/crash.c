@@ -1,6 +1,6 @@
 /* SPDX-License-Identifier: Apache-2.0 */
 /* crash.c: crash tests: that each place of each write leaves what the service itself leaves there, what is asked at which kind of trouble, and
- * what is said of scenarios, restarts and invariants that aren't fit. With THIN in the environment it tries few places. */
+ * what is said of scenarios, restarts and invariants that aren't fit. With THIN in the environment it tries few places, and waits once. */
 #define _DEFAULT_SOURCE
 
 #include "cfetbl_crash.h"
@@ -416,8 +416,10 @@ static void try_unfit(void)
     expect_message(waiting, restart, holds, " ms after call 7, CFE_TBL_Load");
     expect_message(opening, restart, holds, "the scenario calls CFETBL_Open: the service is on in a crash test");
     expect_message(closing, restart, holds, "the scenario calls CFETBL_Close");
-    expect_message(scenario, waiting_restart, holds, " ms");
-    EXPECT_MESSAGE("3 times the application didn't return within ");
+    if (getenv("THIN") == NULL) {
+        expect_message(scenario, waiting_restart, holds, " ms");
+        EXPECT_MESSAGE("3 times the application didn't return within ");
+    }
     expect_message(scenario, opening_restart, holds, "the restart calls CFETBL_Open");
     expect_message(scenario, restart, calling, "the invariant calls CFE_TBL_Manage");
 }
@@ -486,7 +488,9 @@ static void expect_after_fault(CFETBL_CrashScenario_t played, enum CFETBL_CrashO
 
 static void try_after_fault(void)
 {
-    expect_after_fault(stuck_after_fault, CFETBL_CRASH_HANGS, "after the fault the scenario made no call for ");
+    if (getenv("THIN") == NULL) {
+        expect_after_fault(stuck_after_fault, CFETBL_CRASH_HANGS, "after the fault the scenario made no call for ");
+    }
     expect_after_fault(dying_after_fault, CFETBL_CRASH_DIES, "after the fault the scenario was ended by signal 10 ");
 }
 
