@@ -91,7 +91,7 @@ class Definitions(unittest.TestCase):
         bases = [it.find(xtce.SPACE + "BaseMetaCommand") for it in commands[1:]]
         self.assertEqual({it.get("metaCommandRef") for it in bases}, {"command"})
         said = {it.get("name"): it.get("shortDescription") for it in commands}
-        self.assertEqual(said["ACTIVATE"], "it is asked for that the load of a table goes active")
+        self.assertEqual(said["ACTIVATE"], "the load of a table is asked to go active")
         self.assertEqual(len(set(said.values())), len(commands))
         entries = [it for listed in root.iter(xtce.SPACE + "EntryList") for it in listed]
         self.assertEqual({it.find(xtce.SPACE + "LocationInContainerInBits").get("referenceLocation") for it in entries}, {"containerStart"})
