@@ -16,8 +16,7 @@ FRONT = f"{TOP}/cfetbl"
 # The words that find or build a program, and the checks of what doesn't need one.
 PROGRAMS = ("play", "serve", "resets", *(["serve-app"] if shutil.which(os.environ.get("CC", "cc")) else []))
 OF_SOURCES = (["tools/gate/claims", "--check"], ["tools/gate/measures"], ["tools/gate/believed", "--check"], ["tools/gate/check-labels"],
-              ["tools/gate/check-formats"], ["tools/gate/check-links"], ["tools/gate/check-types"], ["tools/gate/check-numbers"],
-              ["tools/pictures", "--check"])
+              ["tools/gate/check-formats"], ["tools/gate/check-links"], ["tools/gate/check-types"], ["tools/gate/check-numbers"])
 # The parts of tools/gate/check-cfetbl and of the tests of the tools that are tried at once.
 OF_THE_COMMAND = ("words lists sessions crews kinds tools ends terminals", "stores places made_files looks watches drills", "resets whole evidence",
                   "builds gate slow manual")
@@ -88,6 +87,7 @@ def jobs() -> list[Job]:
     found += [Job(f"the tests of tools, part {at + 1}", lambda at=at: ran(["tools/gate/check-tools", "--part", f"{at + 1}/3"])) for at in range(3)]
     found += [Job(f"check-cfetbl {part}", lambda part=part: ran(["tools/gate/check-cfetbl", *part.split()])) for part in OF_THE_COMMAND]
     found.append(Job("the pages of docs/use", lambda: ran(["tools/gate/check-use"])))
+    found.append(Job("the pictures", lambda: ran(["tools/pictures", "--check"]), False))
     if os.path.exists(f"{TOP}/{RECORDED}"):
         found.append(Job("recorded sessions", lambda: ran([RECORDED, "--program", program("play"), "--built", "r20"])))
     found.append(Job("the examples", lambda: ran(["tools/gate/check-examples", program("play")])))
