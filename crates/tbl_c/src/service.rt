@@ -69,6 +69,14 @@ fn bank_of(alloc: Global, bytes: &[u8], breaks: &[Break]) -> Result<BreakingBank
     BreakingBank::make(alloc, Vec::from_slice(alloc, bytes)?, breaks)
 }
 
+/// A bank of the same bytes, of which these writes break off.
+fn renewed(alloc: Global, bank: &BreakingBank, breaks: &[Break]) -> Result<BreakingBank, Memory>
+    ensures { IfOk result (λ it. it ≡ breaking breaks.now bank.now.bytes) }
+{
+    let size = bank.size() as usize;
+    bank_of(alloc, &bank.bytes()[..size], breaks)
+}
+
 /// All functions, for which nothing was handed in.
 fn mute_kit(alloc: Global) -> Result<Kit<Answering>, Memory>
     ensures kit { IfOk result (λ kit. kit ≡ map (λ (e : KitEntry Spoken). Some e) (mute_below 240)) }
@@ -308,7 +316,7 @@ impl Service {
         ensures ok { OnOk result (HasBank ⟦<BreakingBank as Bank>⟧ (breaking breaks.now self.old.state.store.bank.bytes) self.old self.new) }
         ensures err { OnErr result (self.new ≡ self.old) }
     {
-        let bank = bank_of(self.alloc, self.engine.bank().bytes(), breaks)?;
+        let bank = renewed(self.alloc, self.engine.bank(), breaks)?;
         let _before = self.engine.replace_bank(bank);
         Ok(())
     }
@@ -317,7 +325,7 @@ impl Service {
     pub(crate) fn duplicate(&self) -> Result<Service, Memory>
         ensures { IfOk result (IsCopied ⟦<BreakingBank as Bank>⟧ self.now) }
     {
-        let bank = bank_of(self.alloc, self.engine.bank().bytes(), &[])?;
+        let bank = renewed(self.alloc, self.engine.bank(), &[])?;
         let kit = self.engine.kit().renewed(self.alloc, Answering::mute)?;
         Ok(Service {
             alloc: self.alloc,
