@@ -14,6 +14,7 @@ mod names;
 mod packets;
 mod records;
 mod service;
+mod status;
 mod store;
 mod tables;
 

@@ -1,7 +1,7 @@
 //! Packets and files: commands and table files are read, and telemetry is written.
 
 use crate::names::{four_at, two_at, Name};
-use crate::service::Status;
+use crate::status::Status;
 
 /// A command of the ground.
 #[expect(dead_code, reason = "what commands that are left out tell is read")]

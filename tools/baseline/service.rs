@@ -7,65 +7,10 @@ use crate::packets::{
     table_file, Clock, Command, Counters, Event,
 };
 use crate::records::{Actor, Request};
+use crate::status::Status;
 use crate::store::Store;
 use crate::tables::{Plan, Tables};
 use std::io;
-
-/// The number that answers a request.
-#[derive(Clone, Copy, PartialEq, Eq)]
-#[repr(u32)]
-pub enum Status {
-    Success = 0,
-    Updated = 1,
-    UpdatePendingInfo = 3,
-    NoUpdatePending = 6,
-    NoValidationPending = 7,
-    TableLocked = 9,
-    Duplicate = 16,
-    NotCritical = 17,
-    BadApp = 32,
-    InvalidHandle = 33,
-    NoAccess = 34,
-    Unregistered = 35,
-    InvalidName = 36,
-    InvalidSize = 37,
-    InvalidOptions = 38,
-    DuplicateNotOwned = 40,
-    DuplicateDiffSize = 41,
-    RegistryFull = 42,
-    HandlesFull = 43,
-    DumpOnly = 44,
-    LoadInProgress = 45,
-    FileNotFound = 46,
-    NoStdHeader = 47,
-    BadContentId = 48,
-    BadSubtypeId = 49,
-    NoTblHeader = 50,
-    LoadIncomplete = 51,
-    FileTooLarge = 52,
-    FileForWrongTable = 53,
-    PartialLoad = 54,
-    ZeroLoad = 55,
-    PastEnd = 56,
-    NoBufferAvail = 57,
-    AlreadyPinned = 59,
-    NeverLoaded = 60,
-    NotPinned = 61,
-    OutOfRange = 62,
-    NoSuchTable = 64,
-    NoLoad = 65,
-    NotValidated = 66,
-    UpdatePending = 67,
-    DrawerFull = 71,
-    BadSelect = 72,
-    AppRunning = 79,
-    BadPacket = 80,
-    BadMessageId = 81,
-    BadCode = 82,
-    BadLength = 83,
-    BadName = 84,
-    ImageSize = 86,
-}
 
 /// What a request is answered before its packets are told.
 pub struct Answer {

@@ -123,9 +123,17 @@ fn clear(file: &File, front: &[u8]) -> io::Result<()> {
     file.write_all_at(b"C", 0)
 }
 
+/// A copy of an image into a block: the head before the image, the place of both, and the turn that makes it show.
+pub struct BlockCopy {
+    pub head: [u8; HEAD],
+    pub place: u64,
+    turn: u8,
+    turn_place: u64,
+}
+
 /// The store after its boot: its file, and the open blocks by their slots.
 pub struct Store {
-    file: File,
+    pub file: File,
     blocks: Vec<Option<Block>>,
 }
 
@@ -191,19 +199,34 @@ impl Store {
 
     /// Copies an image into the block of a slot.
     pub fn copy(&self, slot: usize, image: &[u8]) -> io::Result<()> {
+        let copy = self.begin_copy(slot, check_word(image))?;
+        let mut written = Vec::with_capacity(HEAD + image.len());
+        written.extend(copy.head);
+        written.extend(image);
+        self.file.write_all_at(&written, copy.place)?;
+        self.end_copy(&copy)
+    }
+
+    /// Reads which place of a slot's block doesn't show, into which the image of a check word is to be copied.
+    pub fn begin_copy(&self, slot: usize, check: u16) -> io::Result<BlockCopy> {
         let block = self.blocks[slot].as_ref().expect("the block is open");
         let turns_place = entry_place(slot) + TURNS;
         let mut turns = [0; 2];
         self.file.read_exact_at(&mut turns, turns_place)?;
         let (hidden, turn) = hidden(turns);
-        let mut written = Vec::with_capacity(HEAD + image.len());
-        written.extend(block.size.to_be_bytes());
-        written.extend(check_word(image).to_be_bytes());
-        written.extend([0; 2]);
-        written.extend(image);
-        let place = u64::from(block.offset) + BETWEEN_PLACES * hidden;
-        self.file.write_all_at(&written, place)?;
-        self.file
-            .write_all_at(&[TURN_BYTES[turn]], turns_place + hidden)
+        let mut head = [0; HEAD];
+        head[..4].copy_from_slice(&block.size.to_be_bytes());
+        head[4..6].copy_from_slice(&check.to_be_bytes());
+        Ok(BlockCopy {
+            head,
+            place: u64::from(block.offset) + BETWEEN_PLACES * hidden,
+            turn: TURN_BYTES[turn],
+            turn_place: turns_place + hidden,
+        })
+    }
+
+    /// Makes the place of a copy show, whose head and image were written there.
+    pub fn end_copy(&self, copy: &BlockCopy) -> io::Result<()> {
+        self.file.write_all_at(&[copy.turn], copy.turn_place)
     }
 }

@@ -4,7 +4,8 @@ use crate::check_word::check_word;
 use crate::left_out;
 use crate::names::Name;
 use crate::packets::{read_table_file, Clock, TableFile};
-use crate::service::{Answer, Status};
+use crate::service::Answer;
+use crate::status::Status;
 use std::sync::Arc;
 
 const TABLES: usize = 128;
