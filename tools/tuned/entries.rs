@@ -22,10 +22,15 @@ pub const NO_ROW: u16 = 0xFFFF;
 /// From so many bytes on those of a reply are shared.
 const LONG: usize = 1_024;
 
-/// An entry as it is kept. The bytes of a long reply are those of an image, and what is before and after them has a piece each.
+/// An entry as it is kept. A long reply shares the bytes of an image, and the entry goes on after them.
 pub struct Entry {
     front: &'static [u8],
-    shared: &'static [u8],
+    shared: Option<&'static Shared>,
+}
+
+/// The bytes of an image that an entry shares, and what is after them.
+struct Shared {
+    image: &'static [u8],
     back: &'static [u8],
 }
 
@@ -34,8 +39,7 @@ impl From<&'static mut [u8]> for Entry {
     fn from(front: &'static mut [u8]) -> Entry {
         Entry {
             front,
-            shared: &[],
-            back: &[],
+            shared: None,
         }
     }
 }
@@ -44,10 +48,9 @@ impl Entry {
     /// Writes it by one call.
     #[inline(always)]
     pub fn write_to(&self, sink: &mut File) -> io::Result<()> {
-        if self.shared.is_empty() {
-            sink.write_all(self.front)
-        } else {
-            vectored::write(sink, [self.front, self.shared, self.back])
+        match self.shared {
+            None => sink.write_all(self.front),
+            Some(shared) => vectored::write(sink, [self.front, shared.image, shared.back]),
         }
     }
 }
@@ -161,46 +164,54 @@ impl Entries {
         entry.into()
     }
 
-    /// An entry whose reply has a front and then bytes of an image, with room for so many bytes of packets at its end.
+    /// An entry whose reply has a front and then bytes of an image.
     #[inline(always)]
-    pub fn with_image<const FRONT: usize>(
+    pub fn with_image<const FRONT: usize, const COUNT: usize>(
         &mut self,
         answer: Answer,
-        front: &[u8; FRONT],
-        image: &'static [u8],
-        packets: usize,
-        put: impl FnOnce(&mut Entries, &mut [u8]),
+        (front, image): (&[u8; FRONT], &'static [u8]),
+        clock: Clock,
+        events: &[Event; COUNT],
     ) -> Entry {
         let reply = FRONT + image.len();
         if image.len() < LONG {
-            let entry = self.open(answer, reply, packets);
+            let entry = self.open(answer, reply, COUNT * EVENT);
             entry[HEAD..][..FRONT].copy_from_slice(front);
             entry[HEAD + FRONT..][..image.len()].copy_from_slice(image);
-            put(self, &mut entry[HEAD + reply + LENGTH..]);
+            self.put_events(&mut entry[HEAD + reply + LENGTH..], clock, events);
             return entry.into();
         }
         let entry = self.arena.take(HEAD + FRONT);
         self.put_head(entry, answer, reply);
         entry[HEAD..].copy_from_slice(front);
-        let back = self.arena.take(LENGTH + packets);
-        back[..LENGTH].copy_from_slice(&(packets as u32).to_be_bytes());
-        put(self, &mut back[LENGTH..]);
+        let back = self.arena.take(LENGTH + COUNT * EVENT);
+        back[..LENGTH].copy_from_slice(&((COUNT * EVENT) as u32).to_be_bytes());
+        self.put_events(&mut back[LENGTH..], clock, events);
+        let shared = Box::leak(Box::new(Shared { image, back }));
         Entry {
             front: entry,
-            shared: image,
-            back,
+            shared: Some(shared),
         }
     }
 
     /// Writes the packet of an event.
     #[inline(always)]
-    pub fn put_event(&mut self, packet: &mut [u8], clock: Clock, event: &Event) {
+    fn put_event(&mut self, packet: &mut [u8; EVENT], clock: Clock, event: &Event) {
         packet[..12].copy_from_slice(&header(0x0808, self.events, EVENT, clock));
         packet[12..14].copy_from_slice(&event.number.to_be_bytes());
         packet[14..18].copy_from_slice(&(event.status as u32).to_be_bytes());
         packet[18..20].copy_from_slice(&event.row.to_be_bytes());
-        packet[20..EVENT].copy_from_slice(&event.detail.to_be_bytes());
+        packet[20..].copy_from_slice(&event.detail.to_be_bytes());
         self.events = (self.events + 1) % 16_384;
+    }
+
+    /// Writes the packets of events.
+    #[inline(always)]
+    fn put_events(&mut self, packets: &mut [u8], clock: Clock, events: &[Event]) {
+        let (packets, _) = packets.as_chunks_mut();
+        for (packet, event) in packets.iter_mut().zip(events) {
+            self.put_event(packet, clock, event);
+        }
     }
 
     /// An entry with these events.
@@ -210,14 +221,11 @@ impl Entries {
         answer: Answer,
         reply: &[u8],
         clock: Clock,
-        events: [Event; COUNT],
+        events: &[Event; COUNT],
     ) -> Entry {
         let entry = self.open(answer, reply.len(), COUNT * EVENT);
         entry[HEAD..][..reply.len()].copy_from_slice(reply);
-        let packets = &mut entry[HEAD + reply.len() + LENGTH..];
-        for (packet, event) in packets.chunks_exact_mut(EVENT).zip(&events) {
-            self.put_event(packet, clock, event);
-        }
+        self.put_events(&mut entry[HEAD + reply.len() + LENGTH..], clock, events);
         entry.into()
     }
 }

@@ -37,15 +37,16 @@ const PAYLOADS: [usize; 10] = [0, 0, 64, 106, 42, 40, 64, 40, 40, 40];
 
 /// Whether all bytes of a packet together have the check byte's sum.
 #[inline(always)]
-fn is_summed(packet: &[u8]) -> bool {
-    let (words, rest) = packet.as_chunks();
-    let sum = words
-        .iter()
-        .fold(0, |sum, word| sum ^ u64::from_le_bytes(*word));
-    let sum = sum ^ (sum >> 32);
-    let sum = sum ^ (sum >> 16);
-    let sum = (sum ^ (sum >> 8)) as u8;
-    rest.iter().fold(sum, |sum, byte| sum ^ byte) == 0xFF
+fn is_summed(head: &[u8; 8], payload: &[u8]) -> bool {
+    let (words, rest) = payload.as_chunks();
+    let mut sum = u64::from_le_bytes(*head);
+    for word in words {
+        sum ^= u64::from_le_bytes(*word);
+    }
+    sum ^= sum >> 32;
+    sum ^= sum >> 16;
+    sum ^= sum >> 8;
+    rest.iter().fold(sum as u8, |sum, byte| sum ^ byte) == 0xFF
 }
 
 /// Reads the packet of a command: its function code, and its payload, which has the length of the code.
@@ -57,7 +58,7 @@ pub fn read_packet(packet: &[u8]) -> Result<(u8, &[u8]), Refusal> {
     if usize::from(two_at(head, 4)) + 7 != packet.len() {
         return Err((Status::BadPacket, 2));
     }
-    if !is_summed(packet) {
+    if !is_summed(head, payload) {
         return Err((Status::BadPacket, 3));
     }
     let code = head[6] & 0x7F;

@@ -2,9 +2,7 @@
 
 use crate::counters::Counters;
 use crate::drawer::{Drawer, FileName, Stored, FILE_HEAD};
-use crate::entries::{
-    Answer, Clock, Entries, Entry, Event, EVENT, HEAD, HOUSEKEEPING, LENGTH, NO_ROW,
-};
+use crate::entries::{Answer, Clock, Entries, Entry, Event, HEAD, HOUSEKEEPING, LENGTH, NO_ROW};
 use crate::left_out;
 use crate::names::{four_at, full_name, two_at, Name};
 use crate::requests::{self, check_padding, command_name, read_packet, BadRecord, Refusal};
@@ -172,7 +170,7 @@ impl Service {
     fn accept(&mut self, code: u8, row: u16) -> Entry {
         let events = [self.accepted(code, row)];
         self.entries
-            .with_events(Answer::good(0), &[], self.clock, events)
+            .with_events(Answer::good(0), &[], self.clock, &events)
     }
 
     #[cold]
@@ -192,7 +190,7 @@ impl Service {
         };
         let reply = self.buffers_in_use(status);
         self.entries
-            .with_events(answer, &reply, self.clock, [event])
+            .with_events(answer, &reply, self.clock, &[event])
     }
 
     /// The rows that have a shared working buffer, if a request is refused since none is free.
@@ -268,7 +266,7 @@ impl Service {
         self.counters.count_validation(table, check, is_active);
         Ok(self
             .entries
-            .with_events(Answer::good(0), &[], self.clock, events))
+            .with_events(Answer::good(0), &[], self.clock, &events))
     }
 
     #[inline(always)]
@@ -310,14 +308,8 @@ impl Service {
             detail: (FILE_HEAD + image.len()) as u32,
         };
         let events = [self.accepted(3, u16::from(row)), written];
-        let clock = self.clock;
-        let put = |entries: &mut Entries, packets: &mut [u8]| {
-            for (packet, event) in packets.chunks_exact_mut(EVENT).zip(&events) {
-                entries.put_event(packet, clock, event);
-            }
-        };
         self.entries
-            .with_image(Answer::good(0), head, image, 2 * EVENT, put)
+            .with_image(Answer::good(0), (head, image), self.clock, &events)
     }
 
     /// What a table file of an image has before it.
@@ -590,7 +582,8 @@ impl Service {
             good(vectored::write_at(&self.store.file, pieces, copy.place));
             good(self.store.end_copy(&copy));
         }
-        self.entries.with_events(answer, reply, self.clock, [event])
+        self.entries
+            .with_events(answer, reply, self.clock, &[event])
     }
 
     #[inline(always)]
@@ -598,9 +591,10 @@ impl Service {
         let (offset, length) = (four_at(body, 0), four_at(body, 4));
         let bytes = self.tables.read(app, number, offset, length);
         let bytes = bytes.map_err(plain)?;
+        let answer = Answer::good(app);
         Ok(self
             .entries
-            .with_image(Answer::good(app), &[], bytes, 0, |_, _| {}))
+            .with_image(answer, (&[], bytes), self.clock, &[]))
     }
 }
 
