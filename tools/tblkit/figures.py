@@ -18,8 +18,8 @@ def head(cells) -> str:
 
 
 def beside(values, form) -> list[str]:
-    """The cells of a figure: the program's, and where there is one the plain program's, with how many times as much the first is."""
-    return [form.format(it) for it in values] + [f"{values[0] / it:.2f}" for it in values[1:]]
+    """The cells of a figure: the program's, and for each other program that one's, with how many times as much the first is."""
+    return [form.format(values[0])] + [cell for it in values[1:] for cell in (form.format(it), f"{values[0] / it:.2f}")]
 
 
 def kept(lines, heads) -> dict[str, list[int]]:

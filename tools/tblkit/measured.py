@@ -1,8 +1,10 @@
-"""What a program takes for a session: instructions, time and memory. And the plain Rust program of tools/baseline, built.
+"""What a program takes for a session: instructions, time and memory. And the plain Rust programs of tools/baseline and tools/tuned,
+built.
 
 What is measured is always `play`, `crew` or `drill` over a new store file. No measure reads a clock or a counter of the program's
 own.
 """
+import contextlib
 import fcntl
 import functools
 import os
@@ -13,6 +15,7 @@ import subprocess
 import tempfile
 import termios
 import time
+from collections.abc import Iterator
 from typing import Any, IO, NamedTuple
 
 from . import callgrind
@@ -51,14 +54,21 @@ def without_debug_information(program, copy) -> str:
     return copy
 
 
-def plain_program(folder) -> str | None:
-    """The plain Rust program, built in the folder; none where rustc isn't there."""
-    if not shutil.which("rustc"):
-        return None
-    built, source = os.path.join(folder, "built"), os.path.join(TOP, "tools", "baseline", "main.rs")
+# The plain Rust programs by the heads of their columns: the folders of their sources.
+RUST = {"plain Rust": "baseline", "tuned Rust": "tuned"}
+
+
+def rust_program(name, folder) -> str:
+    """A plain Rust program, built in the folder."""
+    built, source = os.path.join(folder, f"{name}-built"), os.path.join(TOP, "tools", name, "main.rs")
     flags = ["--edition=2021", "-Copt-level=3", "-Clto=fat", "-Ccodegen-units=1", "-Cdebuginfo=0", "-Cpanic=abort"]
     run(["rustc", *flags, "-o", built, source])
-    return without_debug_information(built, os.path.join(folder, "plain"))
+    return without_debug_information(built, os.path.join(folder, name))
+
+
+def rust_programs(folder) -> list[str]:
+    """All of them, in the order of their columns; none if rustc isn't there."""
+    return [rust_program(name, folder) for name in RUST.values()] if shutil.which("rustc") else []
 
 
 # ---- instructions
@@ -106,12 +116,29 @@ class Run(NamedTuple):
     memory: int
 
 
-def timed(way, source) -> Run:
+# Where a program that is timed writes to. The time of a write depends on it.
+SINKS = ("/dev/null", "a file", "a pipe")
+
+
+@contextlib.contextmanager
+def opened(sink) -> Iterator[IO[bytes]]:
+    """A sink that is new. A process reads the pipe until its other end is closed."""
+    if sink == "a pipe":
+        with subprocess.Popen(["cat"], stdin=subprocess.PIPE, stdout=subprocess.DEVNULL) as reader:
+            assert reader.stdin is not None
+            with reader.stdin as pipe:
+                yield pipe
+    else:
+        with open(os.devnull, "wb") if sink == "/dev/null" else tempfile.TemporaryFile() as file:
+            yield file
+
+
+def timed(way, source, sink=SINKS[0]) -> Run:
     """What a program takes by its words for the session in a file, over a new store file."""
     source.seek(0)
-    with tempfile.TemporaryDirectory() as folder, tempfile.TemporaryFile() as said:
+    with tempfile.TemporaryDirectory() as folder, tempfile.TemporaryFile() as said, opened(sink) as written:
         begun = time.perf_counter()
-        started = subprocess.Popen(way, stdin=source, stdout=subprocess.DEVNULL, stderr=said, cwd=folder)
+        started = subprocess.Popen(way, stdin=source, stdout=written, stderr=said, cwd=folder)
         _, status, used = os.wait4(started.pid, 0)
         took = 1_000 * (time.perf_counter() - begun)
         started.returncode = os.waitstatus_to_exitcode(status)
@@ -129,16 +156,16 @@ def least(runs) -> Run:
     return Run(min(run.took for run in whole), min(run.processor for run in whole), most)
 
 
-def least_times(ways, *sessions) -> list[list[float]]:
+def least_times(ways, *sessions, sink=SINKS[0]) -> list[list[float]]:
     """How long each way takes for each session, the least of a few runs in turns: a list for each session."""
-    return [[run.took for run in of_session] for of_session in least_runs(ways, *sessions)]
+    return [[run.took for run in of_session] for of_session in least_runs(ways, *sessions, sink=sink)]
 
 
-def least_runs(ways, *sessions) -> list[list[Run]]:
+def least_runs(ways, *sessions, sink=SINKS[0]) -> list[list[Run]]:
     """What each way takes for each session, the least of a few runs in turns: a list for each session."""
     sources = [file_of(it) for it in sessions]
     try:
-        runs = [[[timed(way, source) for way in ways] for source in sources] for _ in range(RUNS)]
+        runs = [[[timed(way, source, sink) for way in ways] for source in sources] for _ in range(RUNS)]
     finally:
         for source in sources:
             source.close()

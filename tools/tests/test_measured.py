@@ -1,9 +1,13 @@
 """What tools/bench and tools/walk measure: the works, what is read of callgrind, the way of a request, tables of figures, and the
-peak memory of a program. What callgrind itself counts isn't tried here."""
+time and the peak memory of a program. If rustc is there, what the plain Rust programs write. What callgrind itself counts isn't
+tried here."""
+import glob
 import io
 import os
 import random
+import shutil
 import stat
+import subprocess
 import sys
 import tempfile
 import unittest
@@ -153,6 +157,49 @@ class Times(unittest.TestCase):
             with self.assertRaisesRegex(OSError, "ended with status 3\nno room"):
                 measured.timed((sys.executable, "-c", "import sys; print('no room', file=sys.stderr); sys.exit(3)"), source)
 
+    def test_each_sink_takes_more_than_a_pipe_holds(self):
+        with tempfile.TemporaryFile() as source:
+            for sink in measured.SINKS:
+                self.assertGreater(measured.timed((sys.executable, "-c", "print(1_000_000 * '1')"), source, sink).took, 0, sink)
+
+
+@unittest.skipUnless(shutil.which("rustc"), "rustc isn't there")
+class RustPrograms(unittest.TestCase):
+    @classmethod
+    def setUpClass(cls):
+        folder = tempfile.TemporaryDirectory()
+        cls.addClassCleanup(folder.cleanup)
+        cls.programs = [measured.rust_program(name, folder.name) for name in measured.RUST.values()]
+
+    def played(self, program, session):
+        """The status of a program that plays a session, what it writes and says, and its store file."""
+        with tempfile.TemporaryDirectory() as folder:
+            done = subprocess.run([program, "play"], input=session, capture_output=True, cwd=folder, check=False)
+            with open(os.path.join(folder, "cds.store"), "rb") as store:
+                return done.returncode, done.stdout, done.stderr, store.read()
+
+    def test_both_write_the_same_for_each_work(self):
+        for work in works.works():
+            for rounds in (0, 3):
+                plain, tuned = (self.played(it, work.session(rounds)) for it in self.programs)
+                self.assertEqual((plain[0], plain[2]), (0, b""), work.name)
+                self.assertEqual(plain, tuned, work.name)
+
+    def test_each_writes_the_transcript_of_an_example_up_to_what_it_leaves_out(self):
+        whole = 0
+        for name in glob.glob(os.path.join(TOP, "examples", "*.session")):
+            # Its transcript is that of `play --admit`.
+            if os.path.basename(name) == "admitted.session":
+                continue
+            with open(name, "rb") as records_of, open(name.replace(".session", ".transcript"), "rb") as written:
+                session, transcript = records_of.read(), written.read()
+            for program in self.programs:
+                status, found, said, _ = self.played(program, session)
+                whole += status == 0
+                self.assertEqual(found, transcript if status == 0 else transcript[:len(found)], name)
+                self.assertEqual(status, 2 if said.endswith(b" is left out\n") else 0, name)
+        self.assertGreaterEqual(whole, 14)
+
 
 class Callgrind(unittest.TestCase):
     def test_instructions(self):
@@ -207,6 +254,7 @@ class Figures(unittest.TestCase):
 
     def test_times(self):
         self.assertEqual(figures.beside([1500, 1000], "{:,}"), ["1,500", "1,000", "1.50"])
+        self.assertEqual(figures.beside([1500, 1000, 500], "{:,}"), ["1,500", "1,000", "1.50", "500", "3.00"])
         self.assertEqual(figures.beside([1500], "{:,}"), ["1,500"])
 
     def test_the_document_has_each_row(self):
