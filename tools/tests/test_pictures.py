@@ -73,7 +73,7 @@ class Pictures(unittest.TestCase):
     def test_each_crate_is_there(self):
         with open(os.path.join(recorded.TOP, "crates.txt"), encoding="utf-8") as file:
             crates = {re.split("[: ]", line)[0] for line in file if re.match("[a-z]", line)}
-        with open(os.path.join(FOLDER, "crates.svg"), encoding="utf-8") as file:
+        with open(os.path.join(FOLDER, "layers.svg"), encoding="utf-8") as file:
             self.assertEqual(crates - set(re.findall(r">([a-z_]+)</text>", file.read())), set())
 
 
