@@ -9,11 +9,11 @@ import time
 import unittest
 from unittest import mock
 
-from tblkit import files, ground, live, show, text
+from tblkit import files, ground, live, locks, show, text
 
 from . import cosmos, xtce
 from .test_commands import call
-from .test_serve import Service
+from .test_serve import WAIT, Service
 
 SCRIPT = """\
 app 1 start APP
@@ -490,12 +490,19 @@ class Load(Task):
         self.line("app 1 register KEPT size 4 critical", "app 1 load 4 hex 01020304")
         served.kill()
         served.wait()
+        self.wait_for_store()
         words = ["--command-port", str(self.address[1])]
         again = self.begin(*words, script="app 1 start APP\napp 1 register KEPT size 4 critical\n")
         self.send(0)
         self.assertEqual(self.event()[0], 10)
         self.assertIn("bytes 01020304", self.line("app 1 get 0", "app 1 read 0 at 0 length 4")[-1])
         self.assertEqual(self.end(again)[0], 0)
+
+    def wait_for_store(self):
+        """The killed service's program ends by itself once its input ends, which may take a moment on a busy machine."""
+        until = time.monotonic() + WAIT
+        while locks.in_use(os.path.join(self.folder, "cds.store")) and time.monotonic() < until:
+            time.sleep(0.01)
 
 
 if __name__ == "__main__":
