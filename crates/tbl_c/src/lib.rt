@@ -76,7 +76,7 @@ pub extern "C" fn tbl_step(
 /// Gives preserved memory from a place on, as much of it as there is room for.
 #[unsafe(no_mangle)]
 pub extern "C" fn tbl_bank(alloc: Global, handle: &mut Handle, from: usize, out: &mut [u8]) -> u8
-    ensures { OnHeld handle.old.service handle.new.service result (λ old new. (new ≡ old) × (out.new ≡ over_front (drop from old.state.store.bank.bytes) out.old)) }
+    ensures { OnHeld handle.old.service handle.new.service result (λ old new. (result ≡ 0) × (new ≡ old) × (out.new ≡ over_front (drop from old.state.store.bank.bytes) out.old)) }
 {
     let Some(service) = handle.replace(alloc, None) else {
         return CLOSED;
@@ -106,7 +106,7 @@ pub extern "C" fn tbl_break(alloc: Global, handle: &mut Handle, breaks: &[Break]
 /// Tells what became of the writes of preserved memory since the handle was opened, or since `tbl_break`.
 #[unsafe(no_mangle)]
 pub extern "C" fn tbl_writes(alloc: Global, handle: &mut Handle, writes: &mut Writes) -> u8
-    ensures { OnHeld handle.old.service handle.new.service result (λ old new. (new ≡ old) × (writes.new ≡ writes_of old.state.store.bank)) }
+    ensures { OnHeld handle.old.service handle.new.service result (λ old new. (result ≡ 0) × (new ≡ old) × (writes.new ≡ writes_of old.state.store.bank)) }
 {
     let Some(service) = handle.replace(alloc, None) else {
         return CLOSED;
