@@ -1,10 +1,12 @@
 -- The check word is linear over exclusive-or, so each byte of a step is added by itself, from the table of its place.
-use Rattle.std.proofs.Common.{◌≡◌, ℕ, zero, suc, ◌+◌, ◌*◌, ◌-◌, ◌/◌, ◌%◌, ◌<◌, ◌≤◌, ◌==◌, Bool, true, false, cond, List, [], ◌∷◌, map, get_or, take, drop, length, bit_xor, ap, sym, ◌∙◌, arith, refl, zero-add}
+use Rattle.std.proofs.Common.{◌≡◌, ℕ, zero, suc, ◌+◌, ◌*◌, ◌-◌, ◌/◌, ◌%◌, ◌<◌, ◌≤◌, ◌==◌, Bool, true, false, cond, List, [], ◌∷◌, map, get_or, take, drop, length, bit_xor, ap, sym, ◌∙◌, arith, refl, zero-add, zero-mul}
 use Rattle.std.specs.List.{range_with_len, fold}
 use Rattle.std.specs.Simd.{first_chunks}
 use Rattle.std.proofs.lemmas.List.{take-append-drop, drop-drop}
 use Rattle.std.proofs.lemmas.List.Sums.{fold-append, fold_more}
 use Rattle.std.proofs.lemmas.List.FromFn.{get_or-map-range_with_len}
+use Rattle.std.proofs.Math.Nat.{suc-mul}
+use Rattle.std.proofs.Math.Seq.{take-add}
 use lib.Bits.{xor_comm, xor_assoc, xor_shr, xor_mod, xor_shifted, xor_zero_r}
 use Rattle.tbl_kinds.specs.Check.{after_bit, after_bits, after_byte}
 use Rattle.check_word.specs.Later.{later}
@@ -28,14 +30,14 @@ word_is place byte h b =
 
 -- ---- linearity
 
-swap : (a b c d : ℕ) → bit_xor (bit_xor a b) (bit_xor c d) ≡ bit_xor (bit_xor a c) (bit_xor b d)
+pub swap : (a b c d : ℕ) → bit_xor (bit_xor a b) (bit_xor c d) ≡ bit_xor (bit_xor a c) (bit_xor b d)
 swap a b c d =
     xor_assoc a b (bit_xor c d)
     ∙ ap (bit_xor a) (sym (xor_assoc b c d) ∙ ap (λ x. bit_xor x d) (xor_comm b c) ∙ xor_assoc c b d)
     ∙ sym (xor_assoc a c (bit_xor b d))
 
 -- what the bit that goes out adds
-part : ℕ → ℕ
+unfoldable pub part : ℕ → ℕ
 part bit = cond (bit == 1) 0xA001 0
 
 part-xor : (p q : ℕ) → p < 2 → q < 2 → part (bit_xor p q) ≡ bit_xor (part p) (part q)
@@ -50,7 +52,7 @@ choice : (b : Bool) (q k : ℕ) → cond b (bit_xor q k) q ≡ bit_xor q (cond b
 choice true q k = refl
 choice false q k = sym (xor_zero_r q)
 
-after_bit-is : (word : ℕ) → after_bit word ≡ bit_xor (word / 2) (part (word % 2))
+pub after_bit-is : (word : ℕ) → after_bit word ≡ bit_xor (word / 2) (part (word % 2))
 unfolding part
 after_bit-is word = choice (word % 2 == 1) (word / 2) 0xA001
 
@@ -66,17 +68,17 @@ after_bits-xor : (n a b : ℕ) → after_bits n (bit_xor a b) ≡ bit_xor (after
 after_bits-xor zero a b = refl
 after_bits-xor (suc n) a b = ap (after_bits n) (after_bit-xor a b) ∙ after_bits-xor n (after_bit a) (after_bit b)
 
-after_byte-xor : (a b x y : ℕ) → after_byte (bit_xor a b) (bit_xor x y) ≡ bit_xor (after_byte a x) (after_byte b y)
+pub after_byte-xor : (a b x y : ℕ) → after_byte (bit_xor a b) (bit_xor x y) ≡ bit_xor (after_byte a x) (after_byte b y)
 unfolding after_byte
 after_byte-xor a b x y = ap (after_bits 8) (swap a b x y) ∙ after_bits-xor 8 (bit_xor a x) (bit_xor b y)
 
 -- two words, of which the bytes go into the second
-apart : (bytes : List ℕ) (a b : ℕ) → fold after_byte (bit_xor a b) bytes ≡ bit_xor (later (length bytes) a) (fold after_byte b bytes)
+pub apart : (bytes : List ℕ) (a b : ℕ) → fold after_byte (bit_xor a b) bytes ≡ bit_xor (later (length bytes) a) (fold after_byte b bytes)
 unfolding later
 apart [] a b = refl
 apart (x ∷ bytes) a b = ap (λ word. fold after_byte word bytes) (after_byte-xor a b 0 x) ∙ apart bytes (after_byte a 0) (after_byte b x)
 
-later-xor : (n a b : ℕ) → later n (bit_xor a b) ≡ bit_xor (later n a) (later n b)
+pub later-xor : (n a b : ℕ) → later n (bit_xor a b) ≡ bit_xor (later n a) (later n b)
 unfolding later
 later-xor zero a b = refl
 later-xor (suc n) a b = ap (later n) (after_byte-xor a b 0 0) ∙ later-xor n (after_byte a 0) (after_byte b 0)
@@ -206,15 +208,17 @@ after_step_is word (a ∷ b ∷ rest) h =
     ∙ sym (ap (λ from. fold after_byte from rest)
     (ap (λ from. after_byte from b) (into_first word a) ∙ into_second (after_byte 0 first) (word / 256) b))
 
-pub by_steps : (k word : ℕ) (bytes : List ℕ) →
-    fold after_byte (fold (fold after_byte) word (first_chunks 32 k bytes)) (drop (k * 32) bytes) ≡ fold after_byte word bytes
-by_steps zero word bytes = refl
-by_steps (suc k) word bytes =
-    let rest = drop 32 bytes in
-    let from = fold after_byte word (take 32 bytes) in
-    let further : suc k * 32 ≡ 32 + k * 32 = omega arith in
-    ap (λ n. fold after_byte (fold (fold after_byte) from (first_chunks 32 k rest)) (drop n bytes)) further
-    ∙ ap (fold after_byte (fold (fold after_byte) from (first_chunks 32 k rest))) (sym (drop-drop (k * 32) 32 bytes))
-    ∙ by_steps k from rest
-    ∙ sym (fold-append after_byte word (take 32 bytes) rest)
-    ∙ ap (fold after_byte word) (take-append-drop 32 bytes)
+-- ---- in chunks
+
+pub by_chunks : {A B : Type 0} (f : B → A → B) (n k : ℕ) (a : B) (xs : List A) → fold (fold f) a (first_chunks n k xs) ≡ fold f a (take (k * n) xs)
+by_chunks f n zero a xs = ap (λ (m : ℕ). fold f a (take m xs)) (sym (zero-mul n))
+by_chunks f n (suc k) a xs =
+    by_chunks f n k (fold f a (take n xs)) (drop n xs)
+    ∙ sym (fold-append f a (take n xs) (take (k * n) (drop n xs)))
+    ∙ ap (fold f a) (sym (take-add n (k * n) xs) ∙ ap (λ m. take m xs) (omega (arith, suc-mul k n)))
+
+pub in_chunks : {A B : Type 0} (f : B → A → B) (n k : ℕ) (a : B) (xs : List A) → fold f (fold (fold f) a (first_chunks n k xs)) (drop (k * n) xs) ≡ fold f a xs
+in_chunks f n k a xs =
+    ap (λ b. fold f b (drop (k * n) xs)) (by_chunks f n k a xs)
+    ∙ sym (fold-append f a (take (k * n) xs) (drop (k * n) xs))
+    ∙ ap (fold f a) (take-append-drop (k * n) xs)

@@ -1,10 +1,13 @@
 //! The check word of images (CRC-16/ARC): the layers above may rely on it that it is the definition's, bit by bit.
 #![tactic(auto)]
 
-ghost use Rattle.std.specs.Prelude.{◌≡◌, ◌-◌, ◌<◌, ◌∷◌, drop};
+ghost use Rattle.std.specs.Prelude.{◌≡◌, ◌-◌, ◌<◌, ◌≤◌, ◌∷◌, ◌++◌, drop, length, replicate};
 ghost use Rattle.std.specs.List.{fold};
 ghost use Rattle.tbl_kinds.specs.Check.{after_byte, check16};
 ghost use Rattle.check_word.specs.Later.{later};
+ghost use Rattle.check_word.specs.Left.{after_block, after_blocks, word_of};
+
+use std::simd::prelude::*;
 
 /// The words of all bytes, from those of the eight bytes with one bit set: each doubles the list, by exclusive-or.
 macro_rules! words {
@@ -86,11 +89,96 @@ fn after_byte(word: u16, byte: u8) -> u16
     added(31, (mixed % 256) as u8) ^ (mixed / 256)
 }
 
+/// The word after these bytes.
+fn after_bytes(word: u16, bytes: &[u8]) -> u16
+    ensures { result ≡ fold after_byte word bytes.now }
+{
+    let (steps, tail) = bytes.as_chunks();
+    let word = steps.iter().fold(word, |word, step| after_step(word, step));
+    tail.iter().fold(word, |word, byte| after_byte(word, *byte))
+}
+
+/// The last 16 blocks of 16 bytes, each with what the blocks before it add.
+type Left = [u8x16; 16];
+
+/// The last 16 blocks after one more, to which those 1, 14 and 16 places before it are added.
+fn after_block(left: Left, block: &[u8; 16]) -> Left
+    ensures { result ≡ after_block left block.now }
+{
+    let [b0, b1, b2, b3, b4, b5, b6, b7, b8, b9, b10, b11, b12, b13, b14, b15] = left;
+    let new = u8x16::from_array(*block) ^ b15 ^ b2 ^ b0;
+    [b1, b2, b3, b4, b5, b6, b7, b8, b9, b10, b11, b12, b13, b14, b15, new]
+}
+
+/// The last 16 blocks after 16 more. The compiler writes the loop out, so that no block is moved.
+fn after_blocks(left: Left, bytes: &[u8; 256]) -> Left
+    ensures { result ≡ after_blocks left bytes.now }
+{
+    let mut left = left;
+    let (blocks, _) = bytes.as_chunks::<16>();
+    for block in blocks {
+        let more = after_block(left, block);
+        left = more;
+    }
+    left
+}
+
+/// The word of all blocks, by the last 16: to each are added those 1 and 14 places before it, among these.
+fn word_of(left: Left) -> u16
+    ensures { result ≡ word_of left }
+{
+    let [b0, b1, b2, b3, b4, b5, b6, b7, b8, b9, b10, b11, b12, b13, b14, b15] = left;
+    let ended = [
+        b0.to_array(),
+        (b1 ^ b0).to_array(),
+        (b2 ^ b1).to_array(),
+        (b3 ^ b2).to_array(),
+        (b4 ^ b3).to_array(),
+        (b5 ^ b4).to_array(),
+        (b6 ^ b5).to_array(),
+        (b7 ^ b6).to_array(),
+        (b8 ^ b7).to_array(),
+        (b9 ^ b8).to_array(),
+        (b10 ^ b9).to_array(),
+        (b11 ^ b10).to_array(),
+        (b12 ^ b11).to_array(),
+        (b13 ^ b12).to_array(),
+        (b14 ^ b13 ^ b0).to_array(),
+        (b15 ^ b14 ^ b1).to_array(),
+    ];
+    after_bytes(0, ended.as_flattened())
+}
+
+/// Zeros before a few bytes, so that they fill 16 blocks.
+fn filled(bytes: &[u8]) -> [u8; 256]
+    requires { length bytes.now ≤ 256 }
+    ensures { result ≡ replicate (256 - length bytes.now) 0 ++ bytes.now }
+{
+    let mut blocks = [0; 256];
+    blocks[256 - bytes.len()..].copy_from_slice(bytes);
+    blocks
+}
+
+/// The check word by the last 16 blocks. Zeros before an image, which don't change it, fill its first 16.
+#[inline(never)]
+fn long_word(bytes: &[u8]) -> u16
+    ensures { result ≡ check16 bytes.now }
+{
+    let (first, others) = bytes.as_rchunks::<256>();
+    let mut left = after_blocks([u8x16::splat(0); 16], &filled(first));
+    for bytes in others {
+        let more = after_blocks(left, bytes);
+        left = more;
+    }
+    word_of(left)
+}
+
+/// From how many bytes on an image is long: below, the tables alone are faster.
+const LONG: usize = 384;
+
 /// The check word of these bytes.
 pub fn check16(bytes: &[u8]) -> u16
     ensures { result ≡ check16 bytes.now }
 {
-    let (steps, tail) = bytes.as_chunks();
-    let word = steps.iter().fold(0, |word, step| after_step(word, step));
-    tail.iter().fold(word, |word, byte| after_byte(word, *byte))
+    if bytes.len() < LONG { after_bytes(0, bytes) } else { long_word(bytes) }
 }
