@@ -125,9 +125,10 @@ Each1-take P (suc n) (x ∷ xs) h = (h.0, Each1-take P n xs h.1)
 chunks_are : (n k : ℕ) (bytes : List ℕ) → k * n ≤ length bytes → Each1 (Fits w8) bytes → Each1 (IsChunk n) (first_chunks n k bytes)
 chunks_are n zero bytes h f = tt
 chunks_are n (suc k) bytes h f =
-    let enough : n + k * n ≤ length bytes = omega (arith, h, suc-mul k n) in
-    ( record { long = length-take-le n bytes (omega (arith, enough)); fits = Each1-take (Fits w8) n bytes f }
-    , chunks_are n k (drop n bytes) (omega (arith, enough, length-drop n bytes)) (Each1-drop (Fits w8) n bytes f))
+    let enough : n + k * n ≤ length bytes = omega (arith, h, suc-mul k n) in (
+      record { long = length-take-le n bytes (omega (arith, enough)); fits = Each1-take (Fits w8) n bytes f },
+      chunks_are n k (drop n bytes) (omega (arith, enough, length-drop n bytes)) (Each1-drop (Fits w8) n bytes f),
+    )
 
 -- the word after blocks
 abbrev pub after_all : ℕ → List (List ℕ) → ℕ
@@ -225,15 +226,15 @@ one_more (b0 ∷ b1 ∷ b2 ∷ b3 ∷ b4 ∷ b5 ∷ b6 ∷ b7 ∷ b8 ∷ b9 ∷ 
     let now = after_all 0 next in
     let now_is : now ≡ bit_xor (later 16 before) (word b15) = past_one before b15 h15 in
     let sum : word new ≡ bit_xor (bit_xor (bit_xor (word block) (word b15)) (word b2)) (bit_xor (bit_xor (later 256 (word b0)) (later 240 (word b0))) (later 32 (word b0))) =
-        word-added second b0 second_is h0
-        ∙ (λ i. bit_xor ((word-added first b2 first_is h2 ∙ ap (λ x. bit_xor x (word b2)) (word-added block b15 h h15)) i) (word_again (word b0) h0.fits i)) in
-    ( record { count = refl; blocks = Each1-append IsBlock next (new ∷ []) next_are (new_is, tt) }
-    , (λ i. bit_xor (bit_xor (past_one (word b1) b2 h2 i) (now_is i)) ((past_one now new new_is ∙ ap (bit_xor (later 16 now)) sum) i))
-    ∙ balance (later 16 (word b1)) (word b2) (later 16 before) (word b15) (later 16 now) (word block) (later 256 (word b0)) (later 240 (word b0)) (later 32 (word b0))
-    ∙ sym (past_one (by_fronts (b0 ∷ next)) block h
-    ∙ ap (λ x. bit_xor (later 16 x) (word block)) (λ i. bit_xor (bit_xor (past_one (word b0) b1 h1 i) (past (word b0) most most_are i)) (past (word b0) next next_are i))
-    ∙ ap (λ x. bit_xor x (word block)) (later_of_six 16 (later 16 (word b0)) (word b1) (later 224 (word b0)) before (later 240 (word b0)) now
-    ∙ (λ i. bit_xor (bit_xor (bit_xor (later-later 16 16 (word b0) i) (later 16 (word b1))) (bit_xor (later-later 16 224 (word b0) i) (later 16 before))) (bit_xor (later-later 16 240 (word b0) i) (later 16 now)))))
+    word-added second b0 second_is h0
+    ∙ (λ i. bit_xor ((word-added first b2 first_is h2 ∙ ap (λ x. bit_xor x (word b2)) (word-added block b15 h h15)) i) (word_again (word b0) h0.fits i)) in (
+      record { count = refl; blocks = Each1-append IsBlock next (new ∷ []) next_are (new_is, tt) },
+      (λ i. bit_xor (bit_xor (past_one (word b1) b2 h2 i) (now_is i)) ((past_one now new new_is ∙ ap (bit_xor (later 16 now)) sum) i))
+          ∙ balance (later 16 (word b1)) (word b2) (later 16 before) (word b15) (later 16 now) (word block) (later 256 (word b0)) (later 240 (word b0)) (later 32 (word b0))
+          ∙ sym (past_one (by_fronts (b0 ∷ next)) block h
+          ∙ ap (λ x. bit_xor (later 16 x) (word block)) (λ i. bit_xor (bit_xor (past_one (word b0) b1 h1 i) (past (word b0) most most_are i)) (past (word b0) next next_are i))
+          ∙ ap (λ x. bit_xor x (word block)) (later_of_six 16 (later 16 (word b0)) (word b1) (later 224 (word b0)) before (later 240 (word b0)) now
+          ∙ (λ i. bit_xor (bit_xor (bit_xor (later-later 16 16 (word b0) i) (later 16 (word b1))) (bit_xor (later-later 16 224 (word b0) i) (later 16 before))) (bit_xor (later-later 16 240 (word b0) i) (later 16 now))))),
     )
 one_more other block w h = absurd (omega (arith, w.count))
 
@@ -252,11 +253,12 @@ more_blocks : (left : List (List ℕ)) (bytes : List ℕ) → IsLeft left → Is
 more_blocks left bytes w h =
     let blocks = first_chunks 16 16 bytes in
     let blocks_are : Each1 IsBlock blocks = Each1-more (IsChunk 16) IsBlock block_is blocks (chunks_are 16 16 bytes (omega (arith, h.long)) h.fits) in
-    let all = each_more after_block IsBlock one_more left blocks w blocks_are in
-    ( all.0
-    , all.1
-    ∙ by_chunks after_byte 16 16 (by_fronts left) bytes
-    ∙ ap (fold after_byte (by_fronts left)) (take_all 256 bytes (omega (arith, h.long))))
+    let all = each_more after_block IsBlock one_more left blocks w blocks_are in (
+      all.0,
+      all.1
+          ∙ by_chunks after_byte 16 16 (by_fronts left) bytes
+          ∙ ap (fold after_byte (by_fronts left)) (take_all 256 bytes (omega (arith, h.long))),
+    )
 
 no_blocks : List (List ℕ)
 no_blocks = replicate 16 (replicate 16 0)
@@ -296,8 +298,8 @@ ended_is (b0 ∷ b1 ∷ b2 ∷ b3 ∷ b4 ∷ b5 ∷ b6 ∷ b7 ∷ b8 ∷ b9 ∷ 
     let ends : List (List ℕ) = drop 13 pairs in
     let ends_are : Each1 IsBlock ends = (added_is b14 b13 (Each1-drop IsBlock 14 left w.blocks).0 (Each1-drop IsBlock 13 left w.blocks).0, (added_is b15 b14 (Each1-drop IsBlock 15 left w.blocks).0 (Each1-drop IsBlock 14 left w.blocks).0, tt)) in
     let all : after_all word ends ≡ bit_xor (after_all 0 left) (after_all 0 most) =
-        ap (λ x. after_all x pairs) (sym (xor_zero_r w0))
-        ∙ added-all w0 0 (drop 1 left) most refl w.blocks.1 most_are in
+    ap (λ x. after_all x pairs) (sym (xor_zero_r w0))
+    ∙ added-all w0 0 (drop 1 left) most refl w.blocks.1 most_are in
     let first_two : Each1 IsBlock (take 2 left) = Each1-take IsBlock 2 left w.blocks in
     ap (λ x. after_all x (zip2 added ends (take 2 left))) (sym (xor_zero_r word))
     ∙ added-all word 0 ends (take 2 left) refl ends_are first_two

@@ -1,5 +1,5 @@
 -- Two sums by exclusive-or are the same if each of their numbers stands in both an odd number of times, or an even one.
-use Rattle.std.proofs.Common.{◌≡◌, ℕ, zero, suc, ◌*◌, ◌/◌, ◌%◌, ◌^◌, ◌<◌, ◌==◌, cond, List, [], ◌∷◌, get_or, bit_xor, ap, sym, ◌∙◌, arith, refl}
+use Rattle.std.proofs.Common.{◌≡◌, ℕ, zero, suc, ◌/◌, ◌%◌, ◌^◌, ◌<◌, ◌==◌, cond, List, [], ◌∷◌, get_or, bit_xor, ap, sym, ◌∙◌, arith, refl}
 use lib.Bits.{xor_shr, xor_mod, xor_zero_r, xor_self}
 use native.Mathlib.Nat.{pow-suc}
 use Rattle.check_word.proofs.Steps.{swap}

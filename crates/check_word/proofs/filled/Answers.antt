@@ -1,4 +1,4 @@
-use Rattle.std.proofs.Common.{◌≡◌, ℕ, ◌-◌, ◌≤◌, List, [], ◌++◌, length, replicate, ap, ◌∙◌, arith, append-nil}
+use Rattle.std.proofs.Common.{◌≡◌, ℕ, ◌-◌, ◌≤◌, List, ◌++◌, length, replicate, ap, ◌∙◌, arith, append-nil}
 use Rattle.std.proofs.lemmas.List.{take-replicate}
 use borrow.Rule.Slice.PartMut.{put_mid, Post-is}
 use Rattle.check_word.proofs.filled.Goals as goal
