@@ -15,7 +15,7 @@ ghost use Rattle.cds_layout.specs.declared.turns.Place.TheVariants as place;
 
 use crate::places::{HEAD_LENGTH, place_offset, turns_place};
 use crate::turns::{Place, Turns};
-use check_word::check16;
+use check_word::{Checked, check16};
 use tbl_kinds::{Block, u16_at, u32_at};
 use tbl_outside::{Bank, Failed};
 use thiserror::Error;
@@ -69,15 +69,16 @@ pub fn head_bytes(length: u32, word: u16) -> [u8; 8]
 
 /// Spells an image as it stands in a place: its head, and then its bytes.
 #[tactic(auto, unfolding(crate::specs::Images::spelled, crate::specs::Images::block_head))]
-pub fn spell(room: &mut [u8], image: &[u8])
+pub fn spell(room: &mut [u8], image: &Checked<'_>)
     requires room { length room.old ≡ 8 + length image.now }
     requires small { length image.now ≤ 16384 }
     ensures spelled { room.new ≡ spelled (length image.now) image.now }
     ensures check { check16 image.now < 2 ^ 16 }
 {
-    let head = head_bytes(image.len() as u32, check16(image));
+    let bytes = image.bytes();
+    let head = head_bytes(bytes.len() as u32, image.word());
     room[..8].copy_from_slice(&head);
-    room[8..].copy_from_slice(image);
+    room[8..].copy_from_slice(bytes);
 }
 
 /// Whether a head and bytes that were read are of one image.

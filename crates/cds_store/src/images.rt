@@ -19,6 +19,7 @@ use crate::fault::BankFault;
 use crate::slot::Slot;
 use crate::writes::write_image;
 use cds_layout::{RestoreFault, read_block};
+use check_word::Checked;
 use tbl_outside::Bank;
 
 /// Copies an image into an open block.
@@ -26,7 +27,7 @@ pub(crate) fn copy<B: Bank>(
     bank: &mut B,
     slots: &[Option<Slot>],
     slot: u8,
-    image: &[u8],
+    image: &Checked<'_>,
     room: &mut [u8],
 ) -> Result<(), BankFault>
     requires sound { IsSound B.tells B.size B.now (kept slots.now bank.old) }

@@ -29,6 +29,7 @@ use crate::reserving::reserve;
 use crate::settling::forget_all;
 use crate::slot::Slot;
 use cds_layout::{BLOCKS_BEGIN, Directory, MOST_PLACE, RestoreFault, SLOTS};
+use check_word::Checked;
 use std::alloc::{AllocError, Global};
 use std::marker::Model;
 use std::mem;
@@ -298,7 +299,7 @@ impl<B: Bank> Store<B> {
     /// Copies an image into an open block of its size: head and bytes in one write into the place that doesn't show, and then its turn
     /// byte, which makes it show. If the copy breaks off before that byte, the block holds what it held. If it breaks off in that byte, the
     /// block holds that or the image.
-    pub fn copy(&mut self, slot: u8, image: &[u8]) -> Result<(), BankFault>
+    pub fn copy(&mut self, slot: u8, image: &Checked<'_>) -> Result<(), BankFault>
         requires booted { self.old.booted ≡ true }
         requires can { IsOpenOf (length image.now) (slot_at self.old.slots slot) }
         ensures booted { self.new.booted ≡ true }

@@ -19,6 +19,7 @@ use cds_layout::{
     HEAD_LENGTH, Place, Turn, Turns, entry_bytes, gate_place, place_offset, read_turns, spell,
     turn_byte, turn_place,
 };
+use check_word::Checked;
 use tbl_kinds::Block;
 use tbl_outside::{Bank, Failed, Written};
 
@@ -196,7 +197,7 @@ pub(crate) fn write_image<B: Bank>(
     bank: &mut B,
     slot: u8,
     block: &Block,
-    image: &[u8],
+    image: &Checked<'_>,
     room: &mut [u8],
 ) -> Result<(), BankFault>
     requires within { slot < slot_count }
@@ -215,7 +216,7 @@ pub(crate) fn write_image<B: Bank>(
         Asks B.tells_calls B.calls bank.old bank.new (is_ok result) (copy_calls (B.now bank.old) slot block.now (spelled block.now.size image.now)) }
     ensures flags { IfErr result (λ fault. is_old fault ≡ false) }
 {
-    let place_bytes = &mut room[..HEAD_LENGTH as usize + image.len()];
+    let place_bytes = &mut room[..HEAD_LENGTH as usize + image.bytes().len()];
     spell(place_bytes, image);
     write_spelled(bank, slot, block, place_bytes)
 }

@@ -9,6 +9,10 @@ ghost use Rattle.check_word.specs.Left.{after_block, after_blocks, word_of};
 
 use std::simd::prelude::*;
 
+mod checked;
+
+pub use checked::Checked;
+
 /// The words of all bytes, from those of the eight bytes with one bit set: each doubles the list, by exclusive-or.
 macro_rules! words {
     ([$($word:expr),*]) => { [$($word),*] };

@@ -22,6 +22,7 @@ ghost use Rattle.store_requests.specs.Called.{Calls, IsCall, IsTold, IsUngiven, 
 use crate::blocks::{delete, plain};
 use crate::notes::{broken, called, done, note_room};
 use cds_store::{BankFault, RestoreFault, Store};
+use check_word::Checked;
 use request_effects::Effect;
 use sharing::Apps;
 use std::alloc::Global;
@@ -109,7 +110,7 @@ fn copy_into<B: Bank>(
         return Ok(plain(Status::ERR_IMAGE_SIZE, 0, empty));
     }
     let note = note_room(alloc)?;
-    let ended = store.copy(own.slot, image);
+    let ended = store.copy(own.slot, &Checked::of(image));
     Ok(called(ended, empty, note))
 }
 

@@ -7,6 +7,7 @@ ghost use Rattle.cds_store.specs.Sound.{slot_at, IsOpenOf};
 use crate::words::Words;
 use cds_layout::MOST_IMAGE;
 use cds_store::{BankFault, Store};
+use check_word::Checked;
 use std::alloc::Global;
 use std::io;
 use tbl_fakes::MemBank;
@@ -118,7 +119,7 @@ impl Served {
     fn copy<R: Print>(&mut self, rt: &R, slot: u8, image: &[u8]) -> io::Result<()> {
         match self.open_size(slot) {
             Some(size) if self.booted && size as usize == image.len() => {
-                println!(rt; "{:?}", self.store.copy(slot, image))
+                println!(rt; "{:?}", self.store.copy(slot, &Checked::of(image)))
             }
             _ => println!(rt; "{NOT_MADE}"),
         }
