@@ -1,5 +1,6 @@
 ghost use Rattle.std.specs.Prelude.{◌≡◌, List, ℕ, Option, None};
-ghost use Rattle.std.specs.Option.{option_copied};
+ghost use Rattle.std.specs.Option.{option_copied, option_map};
+ghost use Rattle.tbl_kinds.specs.Check.{check16};
 ghost use Rattle.buffer_pairs.specs.Images.{at_first, with_last, without_before, keeping_last, keeping_none, kept_of};
 
 use crate::image::{Image, SPARE_LIMIT};
@@ -139,6 +140,17 @@ impl Buffers {
         ensures { option_copied result ≡ self.now.before }
     {
         self.before.as_ref()
+    }
+
+    /// The check word of the last image, which is kept with it.
+    pub fn keep_check_word(&mut self) -> Option<u16>
+        ensures word { result ≡ option_map check16 self.old.last }
+        ensures same { self.new ≡ self.old }
+    {
+        match &mut self.last {
+            Some(image) => Some(image.keep_check_word()),
+            None => None,
+        }
     }
 
     /// An image becomes the last one.

@@ -1,7 +1,9 @@
 ghost use Rattle.std.specs.Prelude.{◌≡◌, ◌+◌, ◌≤◌, length, replicate, true, IfOk, if◌then◌else◌};
 ghost use Rattle.std.specs.Arc.{arc_value};
+ghost use Rattle.tbl_kinds.specs.Check.{check16};
 ghost use Rattle.tbl_kinds.specs.Numbers.{patched};
 
+use check_word::{Checked, check16};
 use std::alloc::{AllocError, Global};
 use std::marker::Model;
 use std::sync::Arc;
@@ -15,15 +17,20 @@ pub const SPARE_LIMIT: usize = 1_024;
 #[derive(Drop)]
 pub struct Image {
     bytes: Arc<Vec<u8>, Global>,
+    /// Its check word, once that was worked out.
+    word: Option<u16>,
 }
 
 impl Model for Image {
-    ghost use Rattle.std.specs.Prelude.{ℕ, List};
+    ghost use Rattle.std.specs.Prelude.{◌≡◌, ℕ, List, IfSome};
     ghost use Rattle.std.specs.Arc.{arc_value};
+    ghost use Rattle.tbl_kinds.specs.Check.{check16};
 
     ghost Value = { List ℕ };
 
     ghost view = { λ image. (arc_value image.bytes).items };
+
+    ghost invariant = { λ image. IfSome image.word (λ word. word ≡ check16 (arc_value image.bytes).items) };
 }
 
 /// Writes bytes over some of the image.
@@ -63,9 +70,7 @@ impl Image {
         ensures { IfOk result (λ image. image ≡ bytes.now) }
     {
         let bytes = Vec::from_slice(alloc, bytes)?;
-        Ok(Image {
-            bytes: Arc::new(alloc, bytes)?,
-        })
+        Ok(Image::from_shared(Arc::new(alloc, bytes)?))
     }
 
     /// An image of these bytes. It takes the memory of the spare one if that is as long and has no other owner.
@@ -84,6 +89,7 @@ impl Image {
     fn take_bytes(&mut self, bytes: &[u8]) -> bool
         ensures { result ≡ true → self.new ≡ bytes.now }
     {
+        self.word = None;
         match Arc::get_mut(&mut self.bytes) {
             Some(image) => fill(image, bytes),
             None => false,
@@ -106,16 +112,14 @@ impl Image {
         ensures { IfOk result (λ image. image ≡ replicate size 0) }
     {
         let bytes = vec![in alloc; 0; size as usize]?;
-        Ok(Image {
-            bytes: Arc::new(alloc, bytes)?,
-        })
+        Ok(Image::from_shared(Arc::new(alloc, bytes)?))
     }
 
     /// An image of bytes that are in their place already, for example because they were read into it.
     pub fn from_shared(bytes: Arc<Vec<u8>, Global>) -> Image
         ensures { result ≡ (arc_value bytes).items }
     {
-        Image { bytes }
+        Image { bytes, word: None }
     }
 
     /// A new image of the base's bytes, with other bytes over them from an offset on.
@@ -125,9 +129,7 @@ impl Image {
         ensures size { IfOk result (λ image. length image ≡ length base.now) }
     {
         let bytes = joined(alloc, base, offset as usize, bytes)?;
-        Ok(Image {
-            bytes: Arc::new(alloc, bytes)?,
-        })
+        Ok(Image::from_shared(Arc::new(alloc, bytes)?))
     }
 
     /// Its bytes.
@@ -143,7 +145,35 @@ impl Image {
     {
         Ok(Image {
             bytes: Arc::try_clone(&self.bytes)?,
+            word: self.word,
         })
+    }
+
+    /// Its check word. It is kept, so that it is worked out once as long as nobody changes the image.
+    pub fn keep_check_word(&mut self) -> u16
+        ensures word { result ≡ check16 self.old }
+        ensures same { self.new ≡ self.old }
+    {
+        let word = self.check_word();
+        self.word = Some(word);
+        word
+    }
+
+    /// Its check word: the one that is kept, else it is worked out now.
+    pub fn check_word(&self) -> u16
+        ensures { result ≡ check16 self.now }
+    {
+        match self.word {
+            Some(word) => word,
+            None => check16(self.bytes()),
+        }
+    }
+
+    /// Its bytes, with their check word.
+    pub fn checked(&self) -> Checked<'_>
+        ensures { result ≡ self.now }
+    {
+        Checked::known(self.bytes(), self.check_word())
     }
 
     /// The memory of its bytes, for a further owner.
@@ -160,6 +190,7 @@ impl Image {
     {
         match Arc::get_mut(&mut self.bytes) {
             Some(image) => {
+                self.word = None;
                 write_over(image, offset as usize, bytes);
                 true
             }

@@ -16,6 +16,7 @@ use crate::notes::{note_broken, note_room};
 use crate::table_blocks::sized_block;
 use bitflags::Flags;
 use cds_store::{BankFault, Store};
+use check_word::Checked;
 use request_effects::Report;
 use std::alloc::Global;
 use std::marker::Model;
@@ -146,7 +147,7 @@ fn copy_image<B: Bank>(
     store: &mut Store<B>,
     row: u8,
     name: &Name40,
-    image: &[u8],
+    image: &Checked<'_>,
     room: &mut CopyRoom,
     answer: Answer,
     bytes: &mut Bytes,
@@ -166,7 +167,7 @@ fn copy_image<B: Bank>(
     ensures room { (packets : Buffer) → HasRoom 24 packets (told_effect answer bytes.old.list report.old)
         → HasRoom 0 packets (reported_effect result bytes.new.list report.new note.new) }
 {
-    let Some(slot) = sized_block(store, name, image.len()) else {
+    let Some(slot) = sized_block(store, name, image.bytes().len()) else {
         return answer;
     };
     let ended = store.copy(slot, image);
@@ -176,7 +177,7 @@ fn copy_image<B: Bank>(
 /// Copies the image of the table of a row that went active by this request, if one did and the table is critical. The copy comes
 /// last, so that an image is never kept that didn't go active.
 pub fn then_copy<B: Bank>(
-    tables: &Tables,
+    tables: &mut Tables,
     store: &mut Store<B>,
     row: u8,
     is_critical: bool,
@@ -187,17 +188,18 @@ pub fn then_copy<B: Bank>(
     note: &mut Note,
 ) -> Answer
     requires booted { store.old.booted ≡ true }
-    requires critical { IfSome (table_at tables.now row) (λ t. is_critical ≡ is_marked t) }
+    requires critical { IfSome (table_at tables.old row) (λ t. is_critical ≡ is_marked t) }
     requires room { is_critical ≡ true → room.old ≡ true }
     requires few { length report.old.events ≤ 3 }
     requires untouched { note.old ≡ untouched }
     ensures copies { B.tells → (e : Model) → IsEffect (told_effect answer bytes.old.list report.old) e.questions e.next e
-        → e.next.tables ≡ tables.now → StandsFor B.tells B.now store.old e.next.store
+        → e.next.tables ≡ tables.old → StandsFor B.tells B.now store.old e.next.store
         → CallsAfter B.Bank store.old store.new (done_first e) (reported_effect result bytes.new.list report.new note.new) (λ n. then_copy row n e) }
     ensures call { IsCopyCall B.Bank store.old store.new (told_effect answer bytes.old.list report.old)
         (reported_effect result bytes.new.list report.new note.new) }
     ensures room { (packets : Buffer) → HasRoom (if is_critical then 24 else 0) packets (told_effect answer bytes.old.list report.old)
         → HasRoom 0 packets (reported_effect result bytes.new.list report.new note.new) }
+    ensures same { tables.new ≡ tables.old }
 {
     if !is_critical {
         return answer;
@@ -205,11 +207,12 @@ pub fn then_copy<B: Bank>(
     if !went_active(report.events()) {
         return answer;
     }
+    let _ = tables.keep_check_word(row, true);
     let Some(name) = tables.name(row) else {
         return answer;
     };
-    let Some(image) = tables.last(row) else {
+    let Some(image) = tables.last_checked(row) else {
         return answer;
     };
-    copy_image(store, row, name, image, room, answer, bytes, report, note)
+    copy_image(store, row, name, &image, room, answer, bytes, report, note)
 }

@@ -173,7 +173,7 @@ pub(crate) fn dump(
 #[inline(never)]
 pub(crate) fn dump_registry(
     alloc: Global,
-    tables: &Tables,
+    tables: &mut Tables,
     drawer: &mut Drawer,
     clock: Clock,
     file: &Name64,
@@ -184,15 +184,17 @@ pub(crate) fn dump_registry(
     requires empty { bytes.old.list ≡ [] }
     requires packets { packets.old.list ≡ [] }
     requires report { report.old ≡ nothing_reported }
-    ensures effect { IfOk result (λ answer. (s : State) → s.tables ≡ tables.now → s.drawer ≡ drawer.old → s.seconds ≡ clock.seconds → s.sub ≡ clock.sub
+    ensures effect { IfOk result (λ answer. (s : State) → s.tables ≡ tables.old → s.drawer ≡ drawer.old → s.seconds ≡ clock.seconds → s.sub ≡ clock.sub
         → IsEffect (told_effect answer bytes.new.list report.new) [] (record s { drawer = drawer.new }) (dump_registry_effect s file.now)) }
     ensures within { IfOk result (λ answer. IsWithin 1 (told_effect answer bytes.new.list report.new)) }
     ensures given { IfOk result (λ answer. given_of (told_effect answer bytes.new.list report.new) ≡ nothing_given) }
     ensures room { IfOk result (λ answer. HasRoom 24 packets.new (told_effect answer bytes.new.list report.new)) }
     ensures err { OnErr result (drawer.new ≡ drawer.old) }
+    ensures same { tables.new ≡ tables.old }
 {
     packets.reserve(EVENT_LENGTH + EVENT_LENGTH)?;
     let mut contents = Bytes::make(alloc, registry_file_len(tables))?;
+    tables.keep_check_words();
     registry_file(tables, &mut contents, clock.seconds, clock.sub);
     written(drawer, None, file, contents, bytes, report)
 }

@@ -20,18 +20,20 @@ const REGISTRY_LENGTH: usize = 156;
 /// An application asks for the registry record of a table (`CFE_TBL_GetInfo`).
 #[inline(never)]
 pub fn get_info(
-    tables: &Tables,
+    tables: &mut Tables,
     apps: &Apps,
     app: u8,
     name: &Name40,
     bytes: &mut Bytes,
 ) -> Result<Answer, Memory>
     requires { bytes.old.list ≡ [] }
-    ensures effect { IfOk result (λ answer. (s : State) → s.tables ≡ tables.now → s.apps ≡ apps.now → IsEffect (quiet_effect answer bytes.new.list) [] s (info_effect s app name.now)) }
+    ensures effect { IfOk result (λ answer. (s : State) → s.tables ≡ tables.old → s.apps ≡ apps.now → IsEffect (quiet_effect answer bytes.new.list) [] s (info_effect s app name.now)) }
     ensures quiet { IfOk result (λ answer. IsQuiet (quiet_effect answer bytes.new.list)) }
+    ensures same { tables.new ≡ tables.old }
 {
     match sharing::row_of(tables, apps, app, name) {
         Ok(row) => {
+            let _ = tables.keep_check_word(row, true);
             *bytes = Bytes::of(bytes.allocator(), &tables.record(row))?;
             Ok(Answer::plain(Status::SUCCESS))
         }
@@ -42,7 +44,7 @@ pub fn get_info(
 /// The ground asks for the registry packet of the table of this name (`CFE_TBL_SEND_REGISTRY_CC`).
 #[tactic(auto, unfolding(tbl_model::specs::Sharing::send_registry_effect))]
 pub(crate) fn send_registry(
-    tables: &Tables,
+    tables: &mut Tables,
     name: &Name40,
     packets: &mut Bytes,
     report: &mut Report,
@@ -50,15 +52,17 @@ pub(crate) fn send_registry(
     requires packets { packets.old.list ≡ [] }
     requires event { 24 ≤ packets.old.spare }
     requires report { report.old ≡ nothing_reported }
-    ensures effect { IfOk result (λ answer. (s : State) → s.tables ≡ tables.now → IsEffect (told_effect answer [] report.new) [] s (send_registry_effect s name.now)) }
+    ensures effect { IfOk result (λ answer. (s : State) → s.tables ≡ tables.old → IsEffect (told_effect answer [] report.new) [] s (send_registry_effect s name.now)) }
     ensures within { IfOk result (λ answer. IsWithin 0 (told_effect answer [] report.new)) }
     ensures given { IfOk result (λ answer. given_of (told_effect answer [] report.new) ≡ nothing_given) }
     ensures room { IfOk result (λ answer. HasRoom 24 packets.new (told_effect answer [] report.new)) }
+    ensures same { tables.new ≡ tables.old }
 {
     match subject(tables, name) {
         None => Ok(Answer::plain(Status::ERR_NO_SUCH_TABLE)),
         Some(table) => {
             packets.reserve(EVENT_LENGTH + REGISTRY_LENGTH)?;
+            let _ = tables.keep_check_word(table.row, true);
             report.show(Shown::Registry { row: table.row });
             report.name_table(table);
             Ok(Answer::plain(Status::SUCCESS))

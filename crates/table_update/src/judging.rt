@@ -13,7 +13,6 @@ ghost use Rattle.validation.specs.Asked.{WasAsked};
 ghost use Rattle.tbl_model.specs.Fit.{HasImage};
 ghost use Rattle.validation.specs.Ready.{ArePending, HaveFunctions, HaveLoads};
 
-use check_word::check16;
 use tbl_outside::Validator;
 use tbl_registry::Tables;
 use validation::{Kit, Pending};
@@ -75,21 +74,26 @@ fn function(tables: &Tables, row: u8) -> Option<u8>
     table.validator
 }
 
-/// The check word of the image that is judged.
-pub(crate) fn checked(tables: &Tables, row: u8, active: bool) -> u16
-    requires table { IsSome (table_at tables.now row) }
-    requires image { ForSome (table_at tables.now row) (λ t. HasImage t active) }
-    ensures { ForSome (table_at tables.now row) (λ t. result ≡ check16 (judged_image t active)) }
+/// The check word of the image that is judged, which is kept with it.
+pub(crate) fn checked(tables: &mut Tables, row: u8, active: bool) -> u16
+    requires table { IsSome (table_at tables.old row) }
+    requires image { ForSome (table_at tables.old row) (λ t. HasImage t active) }
+    ensures word { ForSome (table_at tables.old row) (λ t. result ≡ check16 (judged_image t active)) }
+    ensures same { tables.new ≡ tables.old }
 {
-    check16(judged_image(tables, row, active))
+    let Some(word) = tables.keep_check_word(row, active) else {
+        unreachable!();
+    };
+    word
 }
 
 /// Asks the table's function about an image of it.
-fn judge<C: Validator>(tables: &Tables, kit: &mut Kit<C>, row: u8, active: bool) -> Judgement
-    requires { MayBeJudged C.asked tables.now kit.old row active }
+fn judge<C: Validator>(tables: &mut Tables, kit: &mut Kit<C>, row: u8, active: bool) -> Judgement
+    requires { MayBeJudged C.asked tables.old kit.old row active }
     ensures active { result.active ≡ active }
-    ensures check { ForSome (table_at tables.now row) (λ t. result.check ≡ check16 (judged_image t active)) }
-    ensures asked { ForSome (table_at tables.now row) (λ t. WasAsked C.verdict C.asked kit.old kit.new (questions t (judged_image t active)) (Some result.verdict ∷ None ∷ [])) }
+    ensures check { ForSome (table_at tables.old row) (λ t. result.check ≡ check16 (judged_image t active)) }
+    ensures same { tables.new ≡ tables.old }
+    ensures asked { ForSome (table_at tables.old row) (λ t. WasAsked C.verdict C.asked kit.old kit.new (questions t (judged_image t active)) (Some result.verdict ∷ None ∷ [])) }
 {
     let number = function(tables, row);
     let Some(verdict) = kit.judge(number, judged_image(tables, row, active)) else {

@@ -330,7 +330,7 @@ impl<B: Bank, C: Validator> Parts<B, C> {
         let is_critical = copy_room(self.alloc, &self.tables, row, &mut self.copies)?;
         let answer = self.owned(row, request, &mut reply.bytes, &mut reply.packets)?;
         Ok(then_copy(
-            &self.tables,
+            &mut self.tables,
             &mut self.store,
             row,
             is_critical,

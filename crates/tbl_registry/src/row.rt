@@ -2,11 +2,14 @@ ghost use Rattle.std.specs.Prelude.{◌≡◌, ◌&&◌, ◌<◌, ◌+◌, ◌-�
 ghost use Rattle.std.specs.Option.{option_map, option_copied};
 ghost use Rattle.std.specs.Borrow.{Bor};
 ghost use Rattle.std.specs.Str.{bytes_eq};
+ghost use Rattle.tbl_kinds.specs.Check.{check16};
 ghost use Rattle.tbl_kinds.specs.Limits.{table_limit};
 ghost use Rattle.tbl_kinds.specs.Numbers.{patched};
 ghost use Rattle.tbl_model.specs.State.{Load, quiet, requested};
 ghost use Rattle.tbl_model.specs.Tables.{has_option, option_bits, is_double, is_dump_only, is_critical, is_quiet, uses_buffer};
 ghost use Rattle.tbl_model.specs.Management.{pending_status};
+ghost use Rattle.tbl_model.specs.Validations.{judged_image};
+ghost use Rattle.tbl_registry.specs.Views.{has_image};
 ghost use Rattle.tbl_model.specs.TableSteps.{new_table, with_first, unchecked, base, filled_with, last_image};
 
 use bitflags::Flags;
@@ -331,6 +334,21 @@ impl Row {
             self.buffers.before()
         } else {
             self.buffers.active()
+        }
+    }
+
+    /// The check word of its last image, or else of that of its open load. It is kept with the image.
+    pub(crate) fn keep_check_word(&mut self, active: bool) -> Option<u16>
+        ensures word { IfSome result (λ word. word ≡ check16 (judged_image self.old active)) }
+        ensures there { is_some result ≡ has_image self.old active }
+        ensures same { self.new ≡ self.old }
+    {
+        if active {
+            return self.buffers.keep_check_word();
+        }
+        match &mut self.load {
+            Some(load) => Some(load.image.keep_check_word()),
+            None => None,
         }
     }
 

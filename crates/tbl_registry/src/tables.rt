@@ -32,6 +32,7 @@ mod ends;
 mod handles;
 mod images;
 mod making;
+mod words;
 
 /// Why a table isn't registered. Nothing was changed.
 #[derive(Clone, Copy, Debug, PartialEq, Eq, Drop, thiserror::Error)]

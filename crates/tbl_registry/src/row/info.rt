@@ -12,7 +12,6 @@ ghost use Rattle.tbl_registry.specs.Records.{numbers_of, names_of};
 
 use super::Row;
 use bitflags::Flags;
-use check_word::check16;
 use tbl_kinds::{Name40, Options};
 
 /// How many bytes a record of the registry has.
@@ -92,7 +91,7 @@ impl Row {
         ensures { result ≡ option_map_or check16 self.now.last 0 }
     {
         match self.buffers.active() {
-            Some(image) => check16(image.bytes()) as u32,
+            Some(image) => u32::from(image.check_word()),
             None => 0,
         }
     }

@@ -1,4 +1,5 @@
-use Rattle.std.proofs.Common.{subst, rules}
+use Rattle.std.proofs.Common.{subst, sym, ◌∙◌, rules}
+use Rattle.tbl_model.specs.State.{Tables}
 use Rattle.tbl_model.specs.Tables.{table_at}
 use Rattle.cds_store.specs.StoreBlocks.{StoreParts, StandsFor}
 use Rattle.tbl_model.specs.Copies.{then_copy}
@@ -22,9 +23,11 @@ returns-clause-does g c =
     let before = told_effect c.in_ok-answer.answer c.owned.new.bytes.list c.owned.new.self.report in
     let done = reported_effect c.then_copy.result c.then_copy.new.bytes.list c.then_copy.new.report c.then_copy.new.note in record {
       before = before;
-      does = subst (λ (store : StoreParts g.row.B.Denot). Does g.C.Validator 3 (parts_view c.args.self.now) (record (parts_view c.owned.new.self) { store = store }) (owned_in c.args.row c.args.request.now) before) does.store does;
+      does =
+          subst (λ (tables : Tables). Does g.C.Validator 3 (parts_view c.args.self.now) (record (parts_view c.owned.new.self) { store = (parts_view c.args.self.now).store; tables = tables }) (owned_in c.args.row c.args.request.now) before) (sym c.then_copy.ensures.same)
+          (subst (λ (store : StoreParts g.row.B.Denot). Does g.C.Validator 3 (parts_view c.args.self.now) (record (parts_view c.owned.new.self) { store = store }) (owned_in c.args.row c.args.request.now) before) does.store does);
       copied = λ tells e is tables.
           subst (λ (store : StoreParts g.row.B.Denot). StandsFor b.tells b.now store e.next.store → CallsAfter b store c.then_copy.new.store (done_first e) done (λ n. then_copy c.args.row n e)) does.store
-          (c.then_copy.ensures.copies tells e is tables);
+          (c.then_copy.ensures.copies tells e is (tables ∙ c.then_copy.ensures.same));
       call = subst (λ (store : StoreParts g.row.B.Denot). IsCopyCall b store c.then_copy.new.store before done) does.store c.then_copy.ensures.call;
     }
