@@ -30,9 +30,9 @@ class Answer:
         numbers = transcript.HEAD.unpack(entry.head)
         self.status, self.actor = numbers[STATUS], numbers[ACTOR]
         self.packets = [packets.decode(it) for it in packets.split(entry.sent)] if entry.sent else []
-        # What was asked: the name of the record, or of the command in it.
-        self.request = record and record.request.name
-        if self.request == "Command":
+        # The name of the record, and what was asked: the same, or the name of the command in it.
+        self.kind = self.request = record and record.request.name
+        if self.kind == "Command":
             self.request = packets.command_name(record.body) or "Command"
 
     def fields(self) -> list[tuple[names.Field, bytes]]:
@@ -44,9 +44,9 @@ class Answer:
     def _read_fields(self) -> list[tuple[names.Field, bytes]]:
         if self.record is None:
             return []
-        request, body = self.record.request.name, self.record.body
-        found = [(it, it.of(body)) for it in names.fields(request)]
-        if request != "Command" or self.request == "Command":
+        body = self.record.body
+        found = [(it, it.of(body)) for it in names.fields(self.kind)]
+        if self.kind != "Command" or self.request == "Command":
             return found
         return found + [(it, it.of(body[packets.COMMAND_HEADER:])) for it in names.fields(self.request)]
 
@@ -107,7 +107,7 @@ class Answer:
 
     def handle(self) -> Any:
         """The handle that the request names, as it stood before, or None."""
-        field = _handle_field(self.record.request.name) if self.record else None
+        field = handle_field(self.kind) if self.record else None
         return self.view.handles.get(packets.number(field.of(self.record.body))) if field else None
 
     def table(self) -> str:
@@ -119,9 +119,9 @@ class Answer:
 
     def sizes(self) -> tuple[int, str, int] | None:
         """How many bytes the image of a load or a copy has, and how many its table or block, where it was refused for that."""
-        if self.status != IMAGE_SIZE or self.record is None or self.record.request.name not in ("LoadImage", "CdsCopy"):
+        if self.status != IMAGE_SIZE or self.record is None or self.kind not in ("LoadImage", "CdsCopy"):
             return None
-        image = names.field(self.record.request.name, "image").of(self.record.body)
+        image = names.field(self.kind, "image").of(self.record.body)
         if self.request == "LoadImage":
             handle = self.handle()
             return (len(image), handle.table, handle.size) if handle and handle.table else None
@@ -140,7 +140,7 @@ class Answer:
 
 
 @functools.cache
-def _handle_field(request) -> names.Field | None:
+def handle_field(request) -> names.Field | None:
     """The field of a request that names a handle, or None."""
     return next((it for it in names.fields(request) if it.name == "handle"), None)
 

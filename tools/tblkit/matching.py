@@ -6,13 +6,13 @@ processors were admitted. After an answer that these explain, and without a prog
 alone: which application runs and has which handle and table, the packets with their counts and times, and what may be replied.
 """
 import contextlib
-import io
+import functools
 import tempfile
 from collections.abc import Iterator
 from typing import Any
 
 from . import layouts, names, packets, programs, records, show, states, transcript
-from .answers import BUFFERS, NO_BUFFER, Answer
+from .answers import BUFFERS, NO_BUFFER, Answer, handle_field
 from .tables import POWER_ON, REGISTERED, STOPPED, SUCCESS
 
 BAD_APP, INVALID_HANDLE, NO_ACCESS, UNREGISTERED, INVALID_NAME, APP_RUNNING = layouts.statuses(
@@ -35,22 +35,22 @@ class Another(Exception):
     """The transcript is of another session."""
 
 
-class Match:
-    """Follows the answers of a transcript beside the records of a session."""
+class Match(states.States):
+    """Follows the answers of a transcript beside the records of a session, and looks at each before it goes on to it."""
 
     def __init__(self) -> None:
-        self._states, self._counts, self._time, self._length = states.States(), {}, bytes(6), 0
+        super().__init__()
+        self._counts, self._time, self._length = {}, bytes(6), 0
 
-    def take(self, answer) -> None:
+    def follow(self, answer) -> None:
         """Goes on to the next answer. One that its request can't have in this state is Another."""
         fits = answer.record is not None and answer.entry.number("place") == self._length
-        try:
-            fits = fits and (answer.status == STOPPED or self._fits(answer))
-            self._states.follow(answer)
-        except states.Impossible:
-            fits = False
-        if not fits:
+        if not fits or answer.status != STOPPED and not self._fits(answer):
             raise Another
+        try:
+            super().follow(answer)
+        except states.Impossible:
+            raise Another from None
         self._length += 1
         self._go_on(answer)
 
@@ -64,26 +64,25 @@ class Match:
         expected = self._expected(answer)
         if expected is not None and answer.status not in expected:
             return False
-        if answer.record.request.name == "Command" and not self._is_reply(answer):
+        if answer.kind == "Command" and not self._is_reply(answer):
             return False
         return _has_reply(answer) and all(map(self._follows, answer.packets))
 
     def _expected(self, answer) -> Any:
         """The statuses of which one has to come, or None where more than is followed here decides."""
-        name = answer.record.request.name
+        name = answer.kind
         if name == "Command":
             return self._of_command(answer)
         if name in ("Time", "Reset"):
             return (SUCCESS,) if name == "Time" else (SUCCESS, BOOT_FAULT)
         if name == "File":
             return None
-        is_running = answer.actor in self._states.view.applications
+        is_running = answer.actor in self.view.applications
         if name == "Start":
             return self._of_start(answer, is_running)
         if not is_running:
             return (BAD_APP,)
-        handle = any(it.name == "handle" for it in names.fields(name))
-        return self._of_handle(answer) if handle else _all_but(BAD_APP, INVALID_HANDLE, NO_ACCESS, UNREGISTERED)
+        return self._of_handle(answer) if handle_field(name) else _all_but(BAD_APP, INVALID_HANDLE, NO_ACCESS, UNREGISTERED)
 
     def _of_start(self, answer, is_running) -> tuple[int, ...]:
         name = names.name_in(answer.record.body)
@@ -91,29 +90,28 @@ class Match:
             return (APP_RUNNING,)
         return (SUCCESS,) if names.is_name(name) and b"." not in name else (INVALID_NAME,)
 
-    def _of_handle(self, answer) -> tuple[int, ...]:
+    def _of_handle(self, answer) -> Any:
         """The answers by the handle that a request names: given or not, whose it is, and whether its table is there."""
-        view, name = self._states.view, answer.record.request.name
-        handle = answer.handle()
+        view, name, handle = self.view, answer.kind, answer.handle()
         if handle is None:
             return (INVALID_HANDLE,)
         if handle.actor != answer.actor:
             return (NO_ACCESS,)
         if handle.table is None and name != "Unregister":
             return (UNREGISTERED,)
-        owners = [it.actor for it in view.handles.values() if it.row == handle.row and it.is_registration]
-        if name in OWNERS and owners != [answer.actor]:
+        if name in OWNERS and [it.actor for it in view.handles.values() if it.row == handle.row and it.is_registration] != [answer.actor]:
             return (NO_ACCESS,)
         return _all_but(BAD_APP, INVALID_HANDLE, NO_ACCESS, UNREGISTERED)
 
     def _of_command(self, answer) -> Any:
-        status, _ = command_fault(answer.record.body)
+        body = answer.record.body
+        status, _ = _kept_fault(body) if len(body) <= packets.FEW else command_fault(body)
         if status:
             return (status,)
         if answer.request in ("NOOP", "RESET_COUNTERS", packets.HOUSEKEEPING):
             return (SUCCESS,)
         if answer.request in OF_A_TABLE:
-            is_there = self._table(answer) in self._states.tables
+            is_there = self._table(answer) in self.tables
             return _all_but(NO_SUCH_TABLE) if is_there else (NO_SUCH_TABLE,)
         return None
 
@@ -127,14 +125,12 @@ class Match:
             return kinds[-1:] == ["housekeeping"]
         if kinds[:1] != ["event"] or answer.request == "SEND_REGISTRY" and answer.status == SUCCESS and kinds != ["event", "registry"]:
             return False
-        told = {name: names.field("event", name).of(answer.packets[0].content[packets.TELEMETRY_HEADER:])
-                for name in ("number", "status", "row", "detail")}
-        number, status, row, detail = (packets.number(it) for it in told.values())
+        number, status, row, detail = answer.packets[0].told
         if answer.status != SUCCESS:
             return (number, status, detail) == (REFUSED, answer.status, answer.entry.number("detail"))
         is_accepted = (number, status) == (ACCEPTED, SUCCESS) and detail == answer.record.body[6] & 0x7F
         table = self._table(answer) if answer.request in OF_A_TABLE else None
-        return is_accepted and (table is None or self._states.view.rows.get(row) == table)
+        return is_accepted and (table is None or self.view.rows.get(row) == table)
 
     def _follows(self, packet) -> bool:
         """Whether a packet has the time, and the count of its kind. A notice has neither."""
@@ -147,8 +143,9 @@ class Match:
         return packet.count == count % (packets.MOST_COUNT + 1) and packet.content[6:12] == self._time
 
 
-def _all_but(*statuses) -> Any:
-    return [it for it in names.named("status") if it not in statuses]
+@functools.cache
+def _all_but(*statuses) -> frozenset[int]:
+    return frozenset(names.named("status")) - set(statuses)
 
 
 def command_fault(packet) -> tuple[int, int]:
@@ -171,6 +168,9 @@ def command_fault(packet) -> tuple[int, int]:
     return 0, 0
 
 
+_kept_fault = functools.lru_cache(packets.KEPT)(command_fault)
+
+
 def _has_reply(answer) -> bool:
     """Whether the reply has as many bytes as it may have."""
     length, name = len(answer.entry.reply), answer.request
@@ -187,12 +187,10 @@ def _has_reply(answer) -> bool:
     return bool(length) == (name == "CdsRestore") or name in ("DUMP", "DUMP_REGISTRY", packets.HOUSEKEEPING)
 
 
-def look(answers, index) -> None:
-    """Holds the parts of a transcript, each entry beside its record, against the session that an index has taken. A transcript of
-    another session is Another."""
-    matching, entries = Match(), [it for it in answers if isinstance(it, Answer)]
-    for answer in entries:
-        matching.take(answer)
+def look_at_rest(answers, index) -> None:
+    """Holds the parts of a transcript, each of which a Match has followed, against the session that an index has taken: its end record,
+    and what the program answers. A transcript of another session is Another."""
+    entries = [it for it in answers if isinstance(it, Answer)]
     end = answers[-1] if answers else None
     if isinstance(end, transcript.End):
         _look_at_end(end, index, len(entries))

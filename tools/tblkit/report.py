@@ -36,11 +36,11 @@ class Progress:
 
 
 class Report:
-    """A page that is made as a session's answers come."""
+    """A page that is made as a session's answers come. `following` is that of its time line."""
 
-    def __init__(self, title, index, shapes=None) -> None:
+    def __init__(self, title, index, shapes=None, following=None) -> None:
         self._title, self._index, self._shapes = title, index, shapes
-        self.timeline, self._lines, self._events, self._end = Timeline(), [], {}, ""
+        self.timeline, self._lines, self._events, self._end = Timeline(following), [], {}, ""
 
     def add(self, part) -> None:
         """Takes the next part of the transcript."""

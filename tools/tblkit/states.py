@@ -128,7 +128,7 @@ class States:
     def _follow(self, answer) -> None:
         before = self.view
         self._follower.follow(answer)
-        if not self.view.is_known or answer.request == "Reset" or answer.status == STOPPED:
+        if not self.view.is_known or answer.kind == "Reset" or answer.status == STOPPED:
             self.tables = {}
             return
         change = CHANGES.get(answer.request)

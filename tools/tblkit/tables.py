@@ -72,11 +72,11 @@ class Tables:
         """Goes on to what stands after an answer."""
         if answer.record is None:
             self.view = NONE_KNOWN
-        elif self.view.is_known and (answer.record.request.name in CHANGES or answer.status == STOPPED):
+        elif self.view.is_known and (answer.kind in CHANGES or answer.status == STOPPED):
             self._change(answer)
 
     def _change(self, answer) -> None:
-        name, body = answer.record.request.name, answer.record.body
+        name, body = answer.kind, answer.record.body
         if name == "Reset" or answer.status == STOPPED:
             self._reset(name == "Reset" and body[0] == POWER_ON)
         elif answer.status in GRANTED.get(name, (SUCCESS,)):

@@ -47,17 +47,17 @@ class Lane:
 
 def is_refused(answer) -> bool:
     """Whether a request is refused. A warning registers its table all the same, and a call may be told that nothing was to do."""
-    if answer.record is not None and answer.record.request.name == "Command":
+    if answer.kind == "Command":
         return answer.status != 0
     return answer.status >= FIRST_REFUSAL or answer.status == states.LOCKED
 
 
 class Timeline:
-    """The requests of a session and its lanes, by its answers in their order."""
+    """The requests of a session and its lanes, by its answers in their order. `following` goes on from state to state with them."""
 
-    def __init__(self) -> None:
+    def __init__(self, following=None) -> None:
         self.actors, self.tables, self.resets, self.marks = {}, {}, [], []
-        self._states, self._begun, self._names = states.States(), {}, {}
+        self._states, self._begun, self._names = following or states.States(), {}, {}
         self._view, self._about = None, {}
 
     @property
@@ -86,6 +86,7 @@ class Timeline:
         """Goes on to the next answer."""
         place, before = self.length, self.standing
         self._states.follow(answer)
+        after = self.standing
         if answer.request == "Start":
             self._names |= self._states.view.applications
         mark = Mark(place, answer.actor, answer.request or "", answer.status, is_refused(answer))
@@ -93,12 +94,12 @@ class Timeline:
         _lane(self.actors, answer.actor).marks.append(mark)
         if answer.request == "Reset" or answer.status == STOPPED:
             self.resets.append(mark)
-        self._change(before, self.standing, place)
+        self._change(before, after, place)
         for name in self._named(answer):
-            if name in self.standing or name in before:
+            if name in after or name in before:
                 lane = _lane(self.tables, name)
                 lane.about.append(place)
-                if mark.is_refused and name in self.standing:
+                if mark.is_refused and name in after:
                     lane.marks.append(mark)
 
     def _named(self, answer) -> set[str]:
@@ -122,11 +123,10 @@ class Timeline:
             return
         changed = [name for name, it in after.items() if before.get(name) is not it] + [name for name in before if name not in after]
         for name in changed:
-            had, has = (_had_by(it.get(name)) for it in (before, after))
-            begun = self._begun.setdefault(name, {})
-            ended = [Span(begun.pop(it), place, *it) for it in had if it not in has]
-            _lane(self.tables, name).spans += ended
-            begun |= dict.fromkeys((it for it in has if it not in had), place)
+            has, begun = _had_by(after.get(name)), self._begun.setdefault(name, {})
+            _lane(self.tables, name).spans += [Span(begun.pop(it), place, *it) for it in list(begun) if it not in has]
+            for it in has:
+                begun.setdefault(it, place)
 
 
 def _lane(lanes, name) -> Lane:

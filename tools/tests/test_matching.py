@@ -34,8 +34,12 @@ def is_own(session, output):
     """Whether a transcript is taken for that of the session."""
     index = records.Index(io.BytesIO(session))
     answers = list(show.answers(transcript.parts(io.BytesIO(output)), index))
+    following = matching.Match()
     try:
-        matching.look(answers, index)
+        for it in answers:
+            if isinstance(it, show.Answer):
+                following.follow(it)
+        matching.look_at_rest(answers, index)
     except matching.Another:
         return ANOTHER
     return OWN

@@ -54,14 +54,6 @@ def look(chosen, parser) -> None:
         inputs.keep(TOOL, f"-o {chosen.output}", chosen.output, [it for it in (chosen.session, chosen.transcript) if it])
 
 
-def compare(answers, index) -> None:
-    """Ends if a transcript isn't that of the session."""
-    try:
-        matching.look(answers, index)
-    except matching.Another:
-        fail(TOOL, "the transcript is of another session", 1)
-
-
 def report_of(chosen, closing) -> tuple[report.Report, Any, int]:
     """The report of a session, the last part of its transcript, and the status of the run, which is 0 if it isn't played here."""
     session = inputs.session_of(TOOL, chosen.session, closing, say)
@@ -73,11 +65,16 @@ def report_of(chosen, closing) -> tuple[report.Report, Any, int]:
         else:
             parts = inputs.parts_of(TOOL, chosen.transcript, closing)
         answers = list(show.answers(parts, index))
-        if chosen.transcript is not None:
-            compare(answers, index)
-        made = report.Report(f"Session {os.path.basename(chosen.session)}", index, chosen.shapes)
-        for progress.done, part in enumerate(answers, 1):
-            made.add(part)
+        # A transcript that was kept is held against the session.
+        following = matching.Match() if chosen.transcript is not None else None
+        made = report.Report(f"Session {os.path.basename(chosen.session)}", index, chosen.shapes, following)
+        try:
+            for progress.done, part in enumerate(answers, 1):
+                made.add(part)
+            if following:
+                matching.look_at_rest(answers, index)
+        except matching.Another:
+            fail(TOOL, "the transcript is of another session", 1)
         return made, answers[-1], status
 
 
