@@ -22,6 +22,7 @@ UNSEGMENTED = layouts.number("sequence flags of a packet")
 LENGTH_LESS = layouts.number("bytes of a packet that its length field leaves out")
 MOST_COUNT = 0x3FFF
 EVENT = layouts.shape("event")
+DETAIL = names.field("event", "detail")
 REFUSED = layouts.number_of("event", "command refused")
 TIME = struct.Struct(">IH")
 UNKNOWN = ("unknown", None, None)
@@ -199,8 +200,9 @@ def _numbers_of(secondary) -> Any:
 @functools.lru_cache(KEPT)
 def body_of(owner, content) -> tuple[Shown, ...]:
     """The fields of a packet's body."""
-    parts = [shown_field(it, content) for it in names.fields(owner)]
-    return tuple(_event_parts(content, parts) if owner == "event" else parts)
+    if owner == "event":
+        return *front_of_event(content[:DETAIL.place]), detail_of_event(content)
+    return tuple(shown_field(it, content) for it in names.fields(owner))
 
 
 def decode(packet) -> Packet:
@@ -208,15 +210,17 @@ def decode(packet) -> Packet:
     return Packet(packet)
 
 
-def _event_parts(content, parts) -> list[Shown]:
-    """The fields of an event, its detail under the name that fits the event or the refusal that it tells of."""
-    number_of, status = (names.field("event", it).of(content) for it in ("number", "status"))
-    event = names.named("event").get(number(number_of))
-    refusal = names.named("status").get(number(status))
-    meaning = refusal if event and event.number == REFUSED else event
-    if meaning and meaning.detail:
-        return parts[:-1] + [shown_detail(meaning, names.field("event", "detail").of(content))]
-    return parts
+@functools.lru_cache(KEPT)
+def front_of_event(content) -> tuple[Shown, ...]:
+    """The fields of an event before its detail, which tells more events apart than all others do."""
+    return tuple(shown_field(it, content) for it in names.fields("event")[:-1])
+
+
+def detail_of_event(content) -> Shown:
+    """The detail of an event, under the name that fits the event or the refusal that it tells of."""
+    event, status = EVENT.unpack(content)[:2]
+    meaning = names.named("status").get(status) if event == REFUSED else names.named("event").get(event)
+    return shown_detail(meaning, DETAIL.of(content)) if meaning and meaning.detail else shown_field(DETAIL, content)
 
 
 def split(content) -> Iterator[bytes]:

@@ -99,27 +99,30 @@ def named_rows(packet, view) -> tuple[Any, ...]:
 
 def _packet_words(packet, rows) -> str:
     if packet.told:
-        kind, told = _event_words(packet.content[packets.TELEMETRY_HEADER:], rows.get(packet.told.row))
+        content = packet.content[packets.TELEMETRY_HEADER:]
+        kind, front = _front_words(content[:packets.DETAIL.place], rows.get(packet.told.row))
+        detail = packets.detail_of_event(content)
+        told = [front, "" if detail.is_blank else f"{detail.name} {detail.words}"]
     else:
-        kind, told = packet.kind, listed(packet.body)
-    return f"{kind}: {', '.join(it for it in (told, _header_words(packet)) if it) or 'all 0'}"
+        kind, told = packet.kind, [listed(packet.body)]
+    return f"{kind}: {', '.join(filter(None, told + _header_words(packet))) or 'all 0'}"
 
 
 @functools.lru_cache(packets.KEPT)
-def _event_words(content, table) -> tuple[str, str]:
-    """What an event is, and its fields in words, its row beside the table where that is known."""
-    fields = [it._replace(words=f"{it.words} {table}") if it.name == "row" and table else it for it in packets.body_of("event", content)]
-    return f"event {fields[0].words}", listed(fields[1:])
+def _front_words(content, table) -> tuple[str, str]:
+    """What an event is, and its fields before its detail in words, its row beside the table where that is known."""
+    event, *fields = packets.front_of_event(content)
+    return f"event {event.words}", listed([it._replace(words=f"{it.words} {table}") if it.name == "row" and table else it for it in fields])
 
 
-def _header_words(packet) -> str:
+def _header_words(packet) -> list[str]:
     """What is told of the headers of a packet: its id and code where its kind doesn't tell them, its count and its time."""
     if packet.kind == "unknown":
-        return ""
+        return []
     own = [it for it in packet.header if it.name in ("message id", "function code")] if packet.kind == "notice" else []
     seconds, subseconds = packet.time if packet.kind != "notice" else (0, 0)
     numbers = (("sequence count", packet.count), ("seconds", seconds), ("subseconds", subseconds))
-    return ", ".join([f"{it.name} {it.words}" for it in own] + [f"{name} {value}" for name, value in numbers if value])
+    return [f"{it.name} {it.words}" for it in own] + [f"{name} {value}" for name, value in numbers if value]
 
 
 def _block(kind, fields, is_all) -> Iterator[str]:
