@@ -121,6 +121,8 @@ def look(chosen, parser) -> None:
         parser.error("resets writes to no store file, so --durable has nothing to sync")
     if chosen.mirror and chosen.html:
         parser.error("--html makes no page of --mirror")
+    if chosen.mirror and chosen.every:
+        parser.error("--mirror takes no --every")
     if len(chosen.files) > 1:
         parser.error("resets takes one session")
     chosen.store = None if chosen.store == stores.NONE else chosen.store
