@@ -16,6 +16,7 @@ HEADS = ("write", "bytes", "in request", "what is written", "table", "a reset af
 STYLE = """\
 .mix { --color: var(--refused); } .broken { --color: var(--open); } .last { --color: var(--validated); }
 .resets { width: 100%; } .resets th:nth-child(6) { width: 34%; } .resets th:nth-child(7) { width: 26%; }
+.resets th { overflow-wrap: break-word; } @media (min-width: 1100px) { .resets td { overflow-wrap: break-word; } }
 .bytes { display: flex; min-width: 160px; margin-top: 2px; }
 .bytes .bar { flex: 1 1 0; min-width: 4px; height: 17px; margin-right: 1px; }
 """
