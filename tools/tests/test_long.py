@@ -3,7 +3,7 @@ import resource
 import time
 import unittest
 
-from tblkit import records, report, show, transcript
+from tblkit import matching, records, report, show, transcript
 
 from . import long_session
 from .test_commands import call
@@ -31,11 +31,11 @@ class Long(unittest.TestCase):
             self.check_page(session, output)
 
     def check_page(self, session, output):
-        """The page is small and soon there, and each refusal keeps its number."""
+        """The page of a transcript that is held against its session is small and soon there, and each refusal keeps its number."""
         begun = time.process_time()
         with open(session, "rb") as source, open(output, "rb") as played:
             index = records.Index(source)
-            made, statuses = report.Report("a long session", index), []
+            made, statuses = report.Report("a long session", index, following=matching.Match()), []
             for part in show.answers(transcript.parts(played), index):
                 made.add(part)
                 statuses += [part.status] if isinstance(part, show.Answer) else []

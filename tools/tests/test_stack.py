@@ -10,7 +10,7 @@ from tblkit import described, limits, programs, text
 from . import recorded
 
 EXAMPLES = os.path.join(recorded.TOP, "examples")
-RESETS = os.path.join(recorded.TOP, "crates", "tbl_resets", "out", "tbl_resets")
+PROVED, RESETS = (os.path.join(recorded.TOP, "crates", it, "out", it) for it in ("tbl_main", "tbl_resets"))
 # Where a program places its stack differs from run to run.
 RUNS = 3
 
@@ -26,6 +26,10 @@ def large():
 
 
 class Stack(unittest.TestCase):
+    def setUp(self):
+        if os.path.realpath(programs.found()) != os.path.realpath(PROVED):
+            self.skipTest("an unproved build takes more stack")
+
     def check(self, words, given=b"", kilobytes=None):
         """Whether a program ends by itself, with whatever status."""
         prefix = limits.with_stack(kilobytes or limits.stack())
