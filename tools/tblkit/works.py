@@ -3,6 +3,7 @@
 `cfetbl text --help` has the forms of the lines. Application 1 is called A, and its table T where a work has one table alone.
 """
 import functools
+import itertools
 import os
 from collections.abc import Iterator
 from dataclasses import dataclass
@@ -59,6 +60,12 @@ def many_tables() -> tuple[str, ...]:
     return tuple(f"app 1 register T{it} size 4" for it in range(TABLES))
 
 
+def many_loaded(size) -> tuple[str, ...]:
+    """A has 128 tables, each of which has had an image."""
+    lines = ((f"app 1 register T{it} size {size}", f"app 1 load {it} fill 5A {size}") for it in range(TABLES))
+    return START, *itertools.chain.from_iterable(lines)
+
+
 def uplinked(size) -> tuple[str, ...]:
     """Files of so many bytes under 64 names."""
     return tuple(f"file /ram/{it} fill 00 {size}" for it in range(FILES))
@@ -75,6 +82,8 @@ UPDATE = ("ground LOAD /ram/t", "ground VALIDATE inactive A.T", "ground ACTIVATE
 HOUSEKEEPING = ("ground NOOP", "ground HOUSEKEEPING")
 DUMP = ("ground DUMP active A.T /ram/d",)
 GET_INFO = ("app 1 get-info A.T",)
+SEND_REGISTRY = ("ground SEND_REGISTRY A.T",)
+DUMP_REGISTRY = ("ground DUMP_REGISTRY /ram/r",)
 
 
 def ordinary_pass() -> tuple[tuple[str, ...], tuple[str, ...]]:
@@ -112,6 +121,10 @@ def works() -> Iterator[Work]:
         yield Work(f"dump of {size:,} bytes", loaded(size), DUMP, rounds)
     for size, rounds in ((64, 2_000), (16_384, 120)):
         yield Work(f"GetInfo of {size:,} bytes", loaded(size), GET_INFO, rounds)
+    for size, rounds in ((64, 2_000), (16_384, 120)):
+        yield Work(f"SEND_REGISTRY of {size:,} bytes", loaded(size), SEND_REGISTRY, rounds)
+    for size in (64, 16_384):
+        yield Work(f"DUMP_REGISTRY of 128 tables of {size:,} bytes", many_loaded(size), DUMP_REGISTRY, 20)
     yield Work("an ordinary pass", pass_opening, pass_round, 65)
 
 
