@@ -5,32 +5,39 @@ import subprocess
 import threading
 import time
 from collections.abc import Callable
-from concurrent.futures import ThreadPoolExecutor
+from concurrent.futures import FIRST_COMPLETED, Future, ThreadPoolExecutor, wait
 from dataclasses import dataclass, field
+from glob import glob
 
 from crates import TOP
 from tblkit.progress import Ticker, span
 from tblkit.streams import say
 
 FRONT = f"{TOP}/cfetbl"
-# The words that find or build a program, and the checks of what doesn't need one.
-PROGRAMS = ("play", "serve", "resets", *(["serve-app"] if shutil.which(os.environ.get("CC", "cc")) else []))
+# The words that find or build a program, and the checks of what doesn't need one. What is compiled over the library for C takes longest,
+# and few jobs need it.
+COMMON = ("play", "serve", "resets")
+OVER_C = ("serve-app",) if shutil.which(os.environ.get("CC", "cc")) else ()
 OF_SOURCES = (["tools/gate/claims", "--check"], ["tools/gate/measures"], ["tools/gate/believed", "--check"], ["tools/gate/check-labels"],
               ["tools/gate/check-formats"], ["tools/gate/check-links"], ["tools/gate/check-types"], ["tools/gate/check-numbers"])
 # The parts of tools/gate/check-cfetbl and of the tests of the tools that are tried at once.
 OF_THE_COMMAND = ("words lists sessions crews kinds tools ends terminals", "stores places made_files looks watches drills", "resets whole evidence",
                   "builds gate slow manual")
+PARTS = 3
+NEEDS_C = "test_serve_app.py"
 RECORDED = "../shared/conformance/run"
 # The programs for tests whose rows take less than a minute without a proof.
 WITH_ROWS = ("test_maker", "test_codecs")
 
 
-@dataclass
+@dataclass(eq=False)
 class Job:
-    """A piece of work: its name, and what does it and answers why it failed. It begins once the programs are there if it needs them."""
+    """A piece of work: its name, what does it and answers why it failed, the programs without which it can't begin, and the one that it
+    makes."""
     name: str
     work: Callable[[], str]
-    needs_programs: bool = True
+    needs: tuple[str, ...] = COMMON
+    makes: str = ""
     fault: str | None = None
 
 
@@ -81,33 +88,48 @@ def program(word: str) -> str:
     return subprocess.run([FRONT, "--program", word], capture_output=True, text=True, check=True).stdout.strip()
 
 
+def tests(part: int) -> Job:
+    """A part of the tests of the tools."""
+    has_app = any(it.endswith(NEEDS_C) for it in sorted(glob(f"{TOP}/tools/tests/test_*.py"))[part::PARTS])
+    words = ["tools/gate/check-tools", "--part", f"{part + 1}/{PARTS}"]
+    return Job(f"the tests of tools, part {part + 1}", lambda: ran(words), COMMON + OVER_C if has_app else COMMON)
+
+
 def jobs() -> list[Job]:
     """What is done, the longest first."""
-    found = [Job(f"the program of {word}", lambda word=word: ran([FRONT, "--program", word]), False) for word in PROGRAMS]
-    found += [Job(f"the tests of tools, part {at + 1}", lambda at=at: ran(["tools/gate/check-tools", "--part", f"{at + 1}/3"])) for at in range(3)]
+    found = [Job(f"the program of {word}", lambda word=word: ran([FRONT, "--program", word]), (), word) for word in COMMON + OVER_C]
+    found += [tests(part) for part in range(PARTS)]
     found += [Job(f"check-cfetbl {part}", lambda part=part: ran(["tools/gate/check-cfetbl", *part.split()])) for part in OF_THE_COMMAND]
-    found.append(Job("the pages of docs/use", lambda: ran(["tools/gate/check-use"])))
-    found.append(Job("the pictures", lambda: ran(["tools/pictures", "--check"]), False))
+    found.append(Job("the pages of docs/use", lambda: ran(["tools/gate/check-use"]), COMMON + OVER_C))
+    found.append(Job("the pictures", lambda: ran(["tools/pictures", "--check"]), ()))
     if os.path.exists(f"{TOP}/{RECORDED}"):
         found.append(Job("recorded sessions", lambda: ran([RECORDED, "--program", program("play"), "--built", "r20"])))
     found.append(Job("the examples", lambda: ran(["tools/gate/check-examples", program("play")])))
-    found += [Job(f"the rows of {crate}", lambda crate=crate: rows(crate), False) for crate in WITH_ROWS]
-    return found + [Job(" ".join(words), lambda words=words: ran(words), False) for words in OF_SOURCES]
+    found += [Job(f"the rows of {crate}", lambda crate=crate: rows(crate), ()) for crate in WITH_ROWS]
+    return found + [Job(" ".join(words), lambda words=words: ran(words), ()) for words in OF_SOURCES]
+
+
+def do_all(work: Jobs, pool: ThreadPoolExecutor) -> None:
+    """Does each job once what it needs is there. If a program can't be made, no further job begins."""
+    left, running, made = list(work.all), dict[Future[None], Job](), set[str]()
+    while left or running:
+        ready = [job for job in left if made.issuperset(job.needs)]
+        running |= {pool.submit(work.do, job): job for job in ready}
+        left = [job for job in left if job not in ready]
+        for future in wait(running, return_when=FIRST_COMPLETED).done:
+            future.result()
+            job = running.pop(future)
+            if job.makes and job.fault:
+                pool.shutdown(cancel_futures=True)
+                return
+            made.add(job.makes)
 
 
 def main() -> int:
     """Does all, and says what failed."""
     begun, work = time.monotonic(), Jobs(jobs())
-    builds, others = work.all[:len(PROGRAMS)], work.all[len(PROGRAMS):]
     with Ticker(work.tell), ThreadPoolExecutor(len(os.sched_getaffinity(0))) as pool:
-        waiting = [pool.submit(work.do, job) for job in builds]
-        waiting += [pool.submit(work.do, job) for job in others if not job.needs_programs]
-        for each in waiting[:len(PROGRAMS)]:
-            each.result()
-        if any(job.fault for job in builds):
-            pool.shutdown(cancel_futures=True)
-        else:
-            waiting = [pool.submit(work.do, job) for job in others if job.needs_programs]
+        do_all(work, pool)
     failed = [job.name for job in work.all if job.fault]
     end = "nothing was proved (`cfetbl test` proves and tests everything)"
     if failed:
