@@ -20,12 +20,12 @@ COMMON = ("play", "serve", "resets")
 OVER_C = ("serve-app",) if shutil.which(os.environ.get("CC", "cc")) else ()
 OF_SOURCES = (["tools/gate/claims", "--check"], ["tools/gate/measures"], ["tools/gate/believed", "--check"], ["tools/gate/check-labels"],
               ["tools/gate/check-formats"], ["tools/gate/check-links"], ["tools/gate/check-types"], ["tools/gate/check-numbers"])
-# The parts of tools/gate/check-cfetbl and of the tests of the tools that are tried at once.
+# The parts of tools/gate/check-cfetbl that are tried at once, and how many parts the tests of the tools and the recorded sessions have.
 OF_THE_COMMAND = ("words lists sessions crews kinds tools ends terminals", "stores places made_files looks watches drills", "resets whole evidence",
                   "builds gate slow manual")
 PARTS = 3
 NEEDS_C = "test_serve_app.py"
-RECORDED = "../shared/conformance/run"
+RECORDED = "../shared/conformance"
 # The programs for tests whose rows take less than a minute without a proof.
 WITH_ROWS = ("test_maker", "test_codecs")
 
@@ -95,15 +95,23 @@ def tests(part: int) -> Job:
     return Job(f"the tests of tools, part {part + 1}", lambda: ran(words), COMMON + OVER_C if has_app else COMMON)
 
 
+def recorded(part: int) -> Job:
+    """A part of the recorded sessions, each of which is a pack in their list."""
+    with open(f"{TOP}/{RECORDED}/packs.txt", encoding="utf-8") as lines:
+        packs = [line.split()[0] for line in lines if not line.startswith("#")]
+    words = [f"{RECORDED}/run", "--built", packs[-1], *packs[part::PARTS]]
+    return Job(f"recorded sessions, part {part + 1}", lambda: ran([*words, "--program", program("play")]))
+
+
 def jobs() -> list[Job]:
     """What is done, the longest first."""
     found = [Job(f"the program of {word}", lambda word=word: ran([FRONT, "--program", word]), (), word) for word in COMMON + OVER_C]
     found += [tests(part) for part in range(PARTS)]
+    if os.path.exists(f"{TOP}/{RECORDED}/run"):
+        found += [recorded(part) for part in range(PARTS)]
     found += [Job(f"check-cfetbl {part}", lambda part=part: ran(["tools/gate/check-cfetbl", *part.split()])) for part in OF_THE_COMMAND]
     found.append(Job("the pages of docs/use", lambda: ran(["tools/gate/check-use"]), COMMON + OVER_C))
     found.append(Job("the pictures", lambda: ran(["tools/pictures", "--check"]), ()))
-    if os.path.exists(f"{TOP}/{RECORDED}"):
-        found.append(Job("recorded sessions", lambda: ran([RECORDED, "--program", program("play"), "--built", "r20"])))
     found.append(Job("the examples", lambda: ran(["tools/gate/check-examples", program("play")])))
     found += [Job(f"the rows of {crate}", lambda crate=crate: rows(crate), ()) for crate in WITH_ROWS]
     return found + [Job(" ".join(words), lambda words=words: ran(words), ()) for words in OF_SOURCES]

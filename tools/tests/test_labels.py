@@ -8,8 +8,8 @@ import unittest
 
 from . import recorded
 
-COPIED = ("cfetbl", "crates.txt", "CHANGELOG.md", "LICENSE", "README.md", "crates/tbl_main/src", "docs", "examples/thermal", "include", "lib",
-          "man", "tools")
+COPIED = ("cfetbl", "crates.txt", "CHANGELOG.md", "CONTRIBUTING.md", "LICENSE", "README.md", "crates/tbl_main/src", "docs",
+          "examples/thermal", "include", "lib", "man", "tools")
 OTHER = "9.8.7"
 # A file, a text in it, another one in its place, and what is said then; {} is the version.
 EDITS = (("include/tbl.h", "/* SPDX-License-Identifier: Apache-2.0 */\n", "", "include/tbl.h doesn't begin with /* SPDX"),
@@ -17,6 +17,7 @@ EDITS = (("include/tbl.h", "/* SPDX-License-Identifier: Apache-2.0 */\n", "", "i
          ("LICENSE", "SPDX-License-Identifier: ", "", "LICENSE has no line SPDX-License-Identifier"),
          ("README.md", "[Apache License 2.0](LICENSE)", "license", "README.md doesn't have `[Apache License 2.0](LICENSE)`"),
          ("README.md", "    cfetbl play --show /usr", "    cfetbl crew --show /usr", "README.md doesn't have `cfetbl play --show /usr"),
+         ("CONTRIBUTING.md", "`./cfetbl test --quick`", "The quick test", "CONTRIBUTING.md doesn't name `./cfetbl test --quick`"),
          ("CHANGELOG.md", "## Unreleased\n", "", "CHANGELOG.md doesn't begin with the headings Unreleased and {}"),
          ("CHANGELOG.md", "\n## {}\n", f"\n## {OTHER}\n", f"but with Unreleased and {OTHER}"),
          ("man/cfetbl.1", "cfetbl {}", f"cfetbl {OTHER}", f"man/cfetbl.1 names the version {OTHER}"),
