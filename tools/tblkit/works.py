@@ -124,7 +124,7 @@ def works() -> Iterator[Work]:
     for size, rounds in ((64, 2_000), (16_384, 120)):
         yield Work(f"SEND_REGISTRY of {size:,} bytes", loaded(size), SEND_REGISTRY, rounds)
     for size in (64, 16_384):
-        yield Work(f"DUMP_REGISTRY of 128 tables of {size:,} bytes", many_loaded(size), DUMP_REGISTRY, 20)
+        yield Work(f"DUMP_REGISTRY of 128 tables of {size:,} bytes", many_loaded(size), DUMP_REGISTRY, 60)
     yield Work("an ordinary pass", pass_opening, pass_round, 65)
 
 

@@ -19,6 +19,7 @@ pub struct Counters {
     good: u8,
     validates: u8,
     housekeepings: u16,
+    registries: u16,
     check: u16,
     is_active: bool,
     updated: Clock,
@@ -35,6 +36,7 @@ impl Counters {
             good: 0,
             validates: 0,
             housekeepings: 0,
+            registries: 0,
             check: 0,
             is_active: false,
             updated: Clock::default(),
@@ -72,6 +74,13 @@ impl Counters {
 
     pub fn note_loaded_table(&mut self, table: &TableName) {
         self.put_name(LOADED_TABLE, table);
+    }
+
+    /// The sequence count of the next registry packet, which is counted.
+    pub fn next_registry(&mut self) -> u16 {
+        let count = self.registries;
+        self.registries = (count + 1) % 16_384;
+        count
     }
 
     /// Writes a housekeeping packet.

@@ -16,6 +16,9 @@ pub const LENGTH: usize = 4;
 pub const EVENT: usize = 24;
 pub const HOUSEKEEPING: usize = 290;
 
+/// How many bytes both headers of a telemetry packet have.
+pub const FRONT: usize = 12;
+
 /// The row in an event that is about none.
 pub const NO_ROW: u16 = 0xFFFF;
 
@@ -212,6 +215,21 @@ impl Entries {
         for (packet, event) in packets.iter_mut().zip(events) {
             self.put_event(packet, clock, event);
         }
+    }
+
+    /// An entry with an event, after which it has room for a packet of so many bytes.
+    #[inline(always)]
+    pub fn with_room(
+        &mut self,
+        answer: Answer,
+        clock: Clock,
+        event: &Event,
+        size: usize,
+    ) -> &'static mut [u8] {
+        let entry = self.open(answer, 0, EVENT + size);
+        let (packet, _) = entry[HEAD + LENGTH..].split_at_mut(EVENT);
+        self.put_events(packet, clock, std::slice::from_ref(event));
+        entry
     }
 
     /// An entry with these events.

@@ -2,7 +2,9 @@
 
 use crate::counters::Counters;
 use crate::drawer::{Drawer, FileName, Stored, FILE_HEAD};
-use crate::entries::{Answer, Clock, Entries, Entry, Event, HEAD, HOUSEKEEPING, LENGTH, NO_ROW};
+use crate::entries::{
+    header, Answer, Clock, Entries, Entry, Event, EVENT, FRONT, HEAD, HOUSEKEEPING, LENGTH, NO_ROW,
+};
 use crate::left_out;
 use crate::names::{four_at, full_name, two_at, Name};
 use crate::requests::{self, check_padding, command_name, read_packet, BadRecord, Refusal};
@@ -11,6 +13,11 @@ use crate::store::Store;
 use crate::tables::{Plan, TableName, Tables, RECORD};
 use crate::vectored;
 use std::io;
+
+/// The kinds of files, and how many bytes the registry's has before the records.
+const TABLE_FILE: u32 = 8;
+const REGISTRY_FILE: u32 = 9;
+const REGISTRY_HEAD: usize = 64;
 
 /// How many tables can be critical.
 const MOST_CRITICAL: usize = 32;
@@ -150,6 +157,8 @@ impl Service {
             3 => self.dump(payload),
             4 => self.validate(payload),
             5 => self.activate(piece(payload).0),
+            6 => self.dump_registry(piece(payload).0),
+            7 => self.send_registry(piece(payload).0),
             requests::HOUSEKEEPING => Ok(self.housekeeping()),
             _ => left_out("this command"),
         }
@@ -312,20 +321,75 @@ impl Service {
             .with_image(Answer::good(0), (head, image), self.clock, &events)
     }
 
+    /// Writes the file header of a file of this kind, with a text.
+    #[inline(always)]
+    fn put_file_head(&self, file: &mut [u8], kind: u32, text: &[u8]) {
+        file[..4].copy_from_slice(b"cFE1");
+        for (place, field) in [(4, kind), (8, 64), (12, 66), (16, 1)] {
+            file[place..][..4].copy_from_slice(&field.to_be_bytes());
+        }
+        file[24..28].copy_from_slice(&self.clock.seconds.to_be_bytes());
+        file[28..30].copy_from_slice(&self.clock.sub.to_be_bytes());
+        file[32..][..text.len()].copy_from_slice(text);
+    }
+
     /// What a table file of an image has before it.
     #[inline(always)]
     fn file_head(&mut self, row: u8, length: usize) -> &'static [u8; FILE_HEAD] {
         let (head, _) = piece_mut(self.entries.room(FILE_HEAD));
-        head[..4].copy_from_slice(b"cFE1");
-        for (place, field) in [(4, 8_u32), (8, 64), (12, 66), (16, 1)] {
-            head[place..][..4].copy_from_slice(&field.to_be_bytes());
-        }
-        head[24..28].copy_from_slice(&self.clock.seconds.to_be_bytes());
-        head[28..30].copy_from_slice(&self.clock.sub.to_be_bytes());
-        head[32..43].copy_from_slice(b"Table image");
+        self.put_file_head(head, TABLE_FILE, b"Table image");
         head[72..76].copy_from_slice(&(length as u32).to_be_bytes());
         head[76..].copy_from_slice(&self.tables.table(row).name);
         head
+    }
+
+    /// Writes the records of all tables as a file, which is the reply too.
+    fn dump_registry(&mut self, name: &FileName) -> Result<Entry, Refused> {
+        let name = self.file_name(name)?;
+        let file = self.registry_file();
+        let status = self.drawer.put(&name, Stored::of(file));
+        if status != Status::Success {
+            return Err((status, 0).into());
+        }
+        self.counters.note_dumped_file(&name);
+        let written = Event {
+            number: 7,
+            status: Status::Success,
+            row: NO_ROW,
+            detail: file.len() as u32,
+        };
+        let events = [self.accepted(6, NO_ROW), written];
+        Ok(self
+            .entries
+            .with_image(Answer::good(0), (&[], file), self.clock, &events))
+    }
+
+    /// The file of the registry.
+    fn registry_file(&mut self) -> &'static [u8] {
+        let count = self.tables.rows.len();
+        let file = self.entries.room(REGISTRY_HEAD + RECORD * count);
+        self.put_file_head(file, REGISTRY_FILE, b"Table registry");
+        let (records, _) = file[REGISTRY_HEAD..].as_chunks_mut();
+        for (record, table) in records.iter_mut().zip(&mut self.tables.rows) {
+            table.put_record(record);
+        }
+        file
+    }
+
+    /// The registry packet of a table comes after the event.
+    fn send_registry(&mut self, name: &TableName) -> Result<Entry, Refused> {
+        let row = self.row_of(name)?;
+        let event = self.accepted(7, u16::from(row));
+        let size = FRONT + RECORD;
+        let front = header(0x080C, self.counters.next_registry(), size, self.clock);
+        let entry = self
+            .entries
+            .with_room(Answer::good(0), self.clock, &event, size);
+        let packet = &mut entry[HEAD + LENGTH + EVENT..];
+        packet[..FRONT].copy_from_slice(&front);
+        let (record, _) = piece_mut(&mut packet[FRONT..]);
+        self.tables.table(row).put_record(record);
+        Ok(entry.into())
     }
 
     // ---- applications
