@@ -1,5 +1,5 @@
 -- A block is made in a free slot.
-use Rattle.std.proofs.Common.{◌≡◌, ℕ, ◌≤◌, ◌==◌, List, slice_set, Bool, true, false, Option, Some, None, Result, Ok, Err, OnOk, IfErr, is_err, sym, ap, subst}
+use Rattle.std.proofs.Common.{◌≡◌, ℕ, ◌≤◌, ◌==◌, List, length, slice_set, Bool, true, false, Option, Some, None, Result, Ok, Err, OnOk, IfErr, is_err, sym, ap, subst}
 use Rattle.std.proofs.lemmas.Option.{same_Some}
 use Rattle.tbl_kinds.specs.Places.{bank_size}
 use Rattle.tbl_kinds.specs.Blocks.{Store as Blocks}
@@ -30,9 +30,17 @@ pub on_done : {T E : Type 0} (r : Result T E) (P : Bool → Type 0) → P (is_er
 on_done (Ok x) P is = is
 on_done (Err e) P is = tt
 
-pub on_gate_fault : {T : Type 0} (r : Result T BankFault) (old : Bool) (P Q : Bool → Type 0) → P (is_err r) → (P true → Q true) → IfErr r (HasFlags true old) → IfErr r (λ fault. Q (is_gate fault))
-on_gate_fault (Ok x) old P Q is then flags = tt
-on_gate_fault (Err fault) old P Q is then flags = subst Q (sym flags.gate_is) (then is)
+pub on_error : {T E : Type 0} (r : Result T E) (P : Bool → Type 0) → P (is_err r) → IfErr r (λ fault. P true)
+on_error (Ok x) P is = tt
+on_error (Err e) P is = is
+
+pub on_gate_fault : {T : Type 0} (r : Result T BankFault) (old : Bool) (P : Type 0) (Q : Bool → Type 0) → (P → Q true) → IfErr r (λ fault. P) → IfErr r (HasFlags true old) → IfErr r (λ fault. Q (is_gate fault))
+on_gate_fault (Ok x) old P Q then is flags = tt
+on_gate_fault (Err fault) old P Q then is flags = subst Q (sym flags.gate_is) (then is)
+
+-- the rest of an entry, by its length
+pub torn_tail : {old image : List ℕ} (n : ℕ) (tail : List ℕ) → length tail ≡ tail_len → Torn (tail_place n) (length tail) old image → Torn (tail_place n) tail_len old image
+torn_tail {old} {image} n tail len torn = subst (λ count. Torn (tail_place n) count old image) len torn
 
 module _ {B : Type 0} (tells : Type 0) (size : B → ℕ) (now : B → List ℕ) (slots : List (Option Slot)) (bank : B) (sound : IsSound tells size now (kept slots bank)) (n : ℕ) (block : Block) (is_new : IsNew n slots block) where
   -- ---- it is prepared

@@ -1,7 +1,8 @@
 -- What the open blocks of a bank hold comes back.
-use Rattle.std.proofs.Common.{◌≡◌, inl, inr, ℕ, ◌+◌, List, [], ◌∷◌, map, slice_index_or, Bool, true, false, not, Option, Some, None, refl, sym, ◌∙◌, ap, subst}
+use Rattle.std.proofs.Common.{Err, ◌≡◌, inl, inr, ℕ, ◌+◌, option_and_then, List, [], ◌∷◌, map, slice_index_or, Bool, true, false, not, Option, Some, None, refl, sym, ◌∙◌, ap, subst}
 use Rattle.std.specs.Option.{option_map, option_map_or, ForSome}
 use Rattle.std.proofs.lemmas.Bool.{cases_eq, and_parts, and_from}
+use Rattle.std.proofs.lemmas.Option.{same_Some}
 use Rattle.std.proofs.lemmas.List.Quantifiers.{position-Some}
 use Rattle.tbl_kinds.proofs.PositionLaws.{position-None}
 use Rattle.tbl_kinds.specs.Blocks.{Stored, Store as Blocks}
@@ -15,7 +16,13 @@ use Rattle.cds_layout.specs.Directory.{directory_of}
 use Rattle.cds_layout.specs.Images.{stored_in, stored_from, store_of}
 use Rattle.cds_layout.proofs.DirectoryLaws.{directory-agree_both}
 use Rattle.cds_store.specs.Moments.{ShowsIn, BootLeaves}
-use Rattle.cds_store.specs.Recovery.{Recovers, open_reads}
+use Rattle.tbl_outside.specs.Counts.{Still, Rose}
+use Rattle.cds_store.specs.Calls.{CallCounted}
+use Rattle.cds_store.specs.declared.fault.BankFault.{BankFault}
+use Rattle.cds_store.specs.declared.fault.BankFault.TheVariants.{Fault as BankFails, Stopped as Cut}
+use Rattle.cds_store.specs.declared.recovery.RecoverFault.{RecoverFault}
+use Rattle.cds_store.specs.declared.recovery.RecoverFault.TheVariants.{Fault, Stopped, Memory}
+use Rattle.cds_store.specs.Recovery.{cause_of, RecoverCounted, Recovers, open_reads}
 use Rattle.cds_store.specs.Slots.{is_open_slot, open_slot, block_of}
 use Rattle.cds_store.specs.Sound.{slot_at}
 use Rattle.cds_store.specs.declared.slot.Slot.{Slot}
@@ -25,7 +32,7 @@ use Rattle.cds_layout.proofs.Stored.{stored_there}
 use Rattle.cds_layout.proofs.Restored.{unheld}
 use Rattle.cds_layout.specs.Restores.{TellsTorn, words}
 use Rattle.cds_layout.specs.declared.blocks.RestoreFault.{RestoreFault}
-use Rattle.cds_store.specs.StoreBlocks.{AreHeld, slot_of}
+use Rattle.cds_store.specs.StoreBlocks.{AreHeld, held_at, slot_of}
 use Rattle.cds_store.proofs.Showing.{slot_is}
 
 -- ---- a block that is found is in its slot
@@ -114,6 +121,16 @@ pub gives_none : (bytes : List ℕ) (slots : List (Option Slot)) (blocks : Block
 gives_none bytes slots blocks slot fault told is same held torn b there =
     subst (MayGive b) (unheld bytes slot b.block fault told is (torn (slot_of b) (slot_is bytes slots blocks same slot ∙ ap (option_map slot_of) there))).no_image (held slot b there)
 
+-- one that was read and holds this gives this
+pub gives_held : (bytes : List ℕ) (blocks : Blocks) (slot : ℕ) (given : List ℕ) → Shows blocks (store_of bytes) → held_at slot (store_of bytes) ≡ Some given → ForSome (stored_at blocks slot) (λ b. MayGive b (Some given))
+gives_held bytes blocks slot given shows held b there = by (stored_at (store_of bytes) slot) (subst (λ o. MayShow o (stored_at (store_of bytes) slot)) there (shows.each slot)) held where
+  by : (o : Option Stored) → MayShow (Some b) o → option_and_then (λ (s : Stored). s.held) o ≡ Some given → MayGive b (Some given)
+  by None shown is = absurd (cc is)
+  by (Some left) shown is = subst (MayGive b) is shown.1
+
+pub recovers_found : (kind : BlockKind) (name : List ℕ) (blocks : Blocks) (own : ℕ) (given : Option (List ℕ)) → open_of kind name blocks ≡ Some own → ForSome (stored_at blocks own) (λ b. MayGive b given) → Recovers kind name blocks given
+recovers_found kind name blocks own given is gives slot found = subst (λ n. ForSome (stored_at blocks n) (λ b. MayGive b given)) (same_Some own slot (sym is ∙ found)) gives
+
 -- ---- what is read of it
 
 module _ {B : Type 0} (tells_calls : B → Type 0) (calls_of : B → List BankCall) (kind : BlockKind) (name : List ℕ) (blocks : Blocks) (bytes : List ℕ) where
@@ -134,3 +151,16 @@ module _ {B : Type 0} (tells_calls : B → Type 0) (calls_of : B → List BankCa
         ∙ ap (λ (o : Option Stored). option_map_or (λ (b : Stored). restore_calls bytes slot b.block) o []) there in
         let made : Asks tells_calls calls_of old new was (restore_calls bytes slot b.block) = asks (slot_of b) (slot_is bytes slots blocks same slot ∙ ap (option_map slot_of) there) in
         subst (λ (d : Bool). Asks tells_calls calls_of old new d (open_reads kind name blocks bytes)) is (subst (Asks tells_calls calls_of old new was) (sym read) made)
+
+-- ---- what was counted
+
+-- a call that is done before it counts nothing
+pub counted_on : {B : Type 0} (faults stops : B → ℕ) (old mid new : B) (cause : RecoverFault) → Still faults stops old mid → RecoverCounted faults stops mid new cause → RecoverCounted faults stops old new cause
+counted_on faults stops old mid new Fault still counted = (subst (λ n. Rose n (faults new)) still.0 counted.0, counted.1 ∙ still.1)
+counted_on faults stops old mid new Stopped still counted = (subst (λ n. Rose n (stops new)) still.1 counted.0, counted.1 ∙ still.0)
+counted_on faults stops old mid new Memory still counted = (counted.0 ∙ still.0, counted.1 ∙ still.1)
+
+-- nor does one whose boot broke off count more than its fault
+pub counted_cause : {B : Type 0} (faults stops : B → ℕ) (old new : B) (fault : BankFault) → CallCounted {A = List ℕ} faults stops old new (Err fault) → RecoverCounted faults stops old new (cause_of fault)
+counted_cause faults stops old new (BankFails gate in_way) counted = counted
+counted_cause faults stops old new (Cut gate in_way) counted = counted

@@ -18,6 +18,10 @@ use Rattle.cds_layout.specs.Images.{held_in, stored_in, store_of}
 use Rattle.cds_layout.proofs.Directories.{length-directory_of}
 use Rattle.cds_layout.proofs.DirectoryLaws.{directory-right, directory-agree_both}
 use Rattle.cds_store.specs.Boots.{SameStore, IsTidy, IsCleared, Clears, BeginsAt, opened_slot, is_doubtful_slot, is_doubtful_at, is_found, found_open, found_in, found_to}
+use Rattle.tbl_outside.specs.BankCalls.{BankCall}
+use Rattle.tbl_outside.specs.declared.bank.Bank.{Ghosts}
+use Rattle.cds_store.specs.Promises.{Boots}
+use Rattle.cds_store.specs.declared.fault.BankFault.{BankFault}
 use Rattle.cds_store.specs.Moments.{ShowsIn, BootLeaves}
 use Rattle.cds_store.specs.Sound.{slot_at, AreTogether, EntryIs, Matches, IsSound, IsKept}
 use Rattle.cds_store.specs.StoreBlocks.{StoreParts, StandsFor, kept, slot_of, AreHeld}
@@ -334,3 +338,33 @@ made_kept tells size now slots bank front place free room len place_len = record
   len = len;
   room_len = place_len;
 }
+
+-- ---- what is promised of booted slots and a bank is promised of the store that has these
+
+pub of_store : {B : Type 0} (Promises : StoreParts B → StoreParts B → Type 0) (slots new_slots : List (Option Slot)) (bank new_bank : B) (booted : Bool) (old : StoreParts B)
+    → record { slots = slots; bank = bank; booted = booted } ≡ old → old.booted ≡ true → Promises (kept slots bank) (kept new_slots new_bank)
+    → Promises old (record { slots = new_slots; bank = new_bank; booted = booted })
+of_store {B} Promises slots new_slots bank new_bank booted old view is_booted promised =
+    subst (λ (o : StoreParts B). Promises o (record { slots = new_slots; bank = new_bank; booted = booted })) view
+    (subst (λ (b : Bool). Promises (record { slots = slots; bank = bank; booted = b }) (record { slots = new_slots; bank = new_bank; booted = b }))
+    (sym (ap (λ (o : StoreParts B). o.booted) view ∙ is_booted)) promised)
+
+-- a boot, whether the store was booted before it or not. If it broke off, the slots may be others
+module _ {B : Type 0} (g : Ghosts B) (kind : ResetKind) (calls : List BankCall) (old : StoreParts B) (mid slots : List (Option Slot)) (bank : B) (is_now : Bool) where
+  stands : (result : Result (List ℕ) BankFault) → OnOk result (slots ≡ mid) → Boots g (kept old.slots old.bank) (kept mid bank) kind calls result
+      → IfOk result (λ found. g.tells → (blocks : Blocks) → BeginsAt g.tells g.now old blocks → StandsFor g.tells g.now (record { slots = slots; bank = bank; booted = is_now }) (booted kind found blocks))
+  stands (Ok found) same boots = λ told blocks begins. let is = boots.ok told blocks (begins_kept g.tells g.now old blocks begins) in record { slots = same ∙ is.slots; shows = is.shows; holds = is.holds }
+  stands (Err fault) same boots = tt
+
+  pub boots_store : (result : Result (List ℕ) BankFault) → OnOk result (slots ≡ mid) → Boots g (kept old.slots old.bank) (kept mid bank) kind calls result
+      → Boots g old (record { slots = slots; bank = bank; booted = is_now }) kind calls result
+  boots_store result same boots = record {
+    ok = stands result same boots;
+    found = boots.found;
+    left = λ told blocks begins. boots.left told blocks (begins_kept g.tells g.now old blocks begins);
+    moments = λ told blocks begins. boots.moments told blocks (begins_kept g.tells g.now old blocks begins);
+    steady = boots.steady;
+    counted = boots.counted;
+    bank_calls = boots.bank_calls;
+    not_old = boots.not_old;
+  }

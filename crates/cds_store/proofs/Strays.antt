@@ -15,6 +15,9 @@ use Rattle.cds_layout.specs.Images.{held_in, stored_in, store_of}
 use Rattle.cds_layout.proofs.Directories.{directory-is, length-directory_of}
 use Rattle.cds_layout.proofs.DirectoryLaws.{directory-right, version-front}
 use Rattle.cds_layout.proofs.Stored.{stored_there, length-store}
+use Rattle.tbl_outside.specs.Bank.{LeavesOnly}
+use Rattle.tbl_outside.specs.declared.bank.Bank.{Ghosts}
+use Rattle.tbl_outside.proofs.Moments.{started}
 use Rattle.cds_store.specs.Boots.{IsFront, SameStore, Tidied, IsTidy, IsEmptied, opened_slot}
 use Rattle.cds_store.specs.Moments.{ShowsIn}
 use Rattle.cds_store.specs.Sound.{EntryIs}
@@ -181,6 +184,11 @@ same_store_on old mid image first second = record {
 }
 
 -- ---- one slot after the other
+
+-- a step that does nothing leaves what the bank is
+pub unmoved : {B : Type 0} (g : Ghosts B) (bank : B) (IsLeft : List ℕ → Type 0) → ((image : List ℕ) → g.left_since bank (g.clock bank) image → image ≡ g.now bank) → IsLeft (g.now bank)
+    → LeavesOnly g.clock g.left_since bank bank IsLeft
+unmoved g bank IsLeft only here = started g.clock g.left_since bank IsLeft (λ image left. subst IsLeft (sym (only image left)) here)
 
 pub tidied_start : (old : List ℕ) → is_live old ≡ true → Tidied old old 0
 tidied_start old live = record {

@@ -1,7 +1,9 @@
 -- What a boot reads and writes.
-use Rattle.std.specs.Prelude.{◌≡◌, ◌⊎◌, ℕ, ◌<◌, ◌≤◌, ◌==◌, ◌&&◌, List, [], ◌∷◌, replicate, Bool, true, false, not, Option, Some, None, is_some, slice_index, slice_index_or}
+use Rattle.std.specs.Prelude.{◌≡◌, ◌⊎◌, ℕ, ◌<◌, ◌≤◌, ◌==◌, ◌&&◌, List, length, [], ◌∷◌, replicate, Bool, true, false, not, Option, Some, None, is_some, slice_index, slice_index_or}
 use Rattle.std.specs.List.{filter, range_with_len}
 use Rattle.std.specs.Option.{option_map}
+use Rattle.tbl_kinds.specs.Places.{bank_size}
+use Rattle.tbl_outside.specs.declared.bank.Bank.{Ghosts}
 use Rattle.tbl_kinds.specs.Numbers.{piece, byte_at}
 use Rattle.tbl_kinds.specs.Blocks.{Store as Blocks}
 use Rattle.tbl_kinds.specs.StoreSteps.{stored_at}
@@ -20,6 +22,12 @@ use Rattle.cds_store.specs.declared.slot.Slot.{Slot}
 pub record IsFront (front : List ℕ) (directory : List (Option Block)) (bytes : List ℕ) : Type 0 where
   pub read : front ≡ piece 0 directory_len bytes
   pub told : directory ≡ directory_of bytes
+
+-- these were read of the bank, which has room for a store
+pub record WasRead {B : Type 0} (g : Ghosts B) (bank : B) (front : List ℕ) (directory : List (Option Block)) : Type 0 where
+  pub len : length front ≡ directory_len
+  pub room : bank_size ≤ g.size bank
+  pub is : g.tells → IsFront front directory (g.now bank)
 
 -- the same blocks are open, with the same images
 pub record SameStore (old image : List ℕ) : Type 0 where

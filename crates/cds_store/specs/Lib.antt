@@ -1,6 +1,8 @@
+pub mod BankSteps
 pub mod Boots
 pub mod Calls
 pub mod Moments
+pub mod Promises
 pub mod Recovery
 pub mod Slots
 pub mod Sound

@@ -3,9 +3,10 @@ use Rattle.std.specs.Prelude.{◌≡◌, ◌≢◌, ℕ, ◌≤◌, ◌<◌, ◌
 use Rattle.std.specs.Option.{ForSome}
 use Rattle.tbl_kinds.specs.Places.{bank_size}
 use Rattle.tbl_kinds.specs.declared.block.Block.{Block}
+use Rattle.tbl_outside.specs.declared.bank.Bank.{Ghosts}
 use Rattle.cds_layout.specs.Entries.{slot_count, gate_open, gate_at, told_at, block_in, is_right}
 use Rattle.cds_layout.specs.Directory.{directory_len, is_live, is_first_version, agree}
-use Rattle.cds_store.specs.StoreBlocks.{StoreParts}
+use Rattle.cds_store.specs.StoreBlocks.{StoreParts, kept}
 use Rattle.cds_store.specs.declared.slot.Slot.{Slot}
 
 abbrev pub slot_at : List (Option Slot) → ℕ → Option Slot
@@ -34,6 +35,10 @@ pub record IsSound {B : Type 0} (tells : Type 0) (size : B → ℕ) (now : B →
   pub room : bank_size ≤ size kept.bank
   pub matches : kept.booted ≡ true → tells → Matches (now kept.bank) kept.slots
 
+-- the same of booted slots and a bank
+abbrev pub SoundOver : {B : Type 0} → Ghosts B → List (Option Slot) → B → Type 0
+SoundOver g slots bank = IsSound g.tells g.size g.now (kept slots bank)
+
 -- a block that can be made in this slot, besides those that are there
 pub record IsNew (n : ℕ) (slots : List (Option Slot)) (block : Block) : Type 0 where
   pub within : n < slot_count
@@ -52,3 +57,9 @@ pub record IsKept {B : Type 0} (tells : Type 0) (size : B → ℕ) (now : B → 
   pub sound : IsSound tells size now kept
   pub len : length front ≡ directory_len
   pub room_len : length room ≡ 16392
+
+-- what a store takes from memory: these slots, and the bytes of the two
+pub record IsRoom (all : List (Option Slot)) (slots : List (Option Slot)) (first place : List ℕ) : Type 0 where
+  pub slots_are : slots ≡ all
+  pub front : length first ≡ directory_len
+  pub place_len : length place ≡ 16392

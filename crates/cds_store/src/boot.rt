@@ -11,14 +11,16 @@ ghost use Rattle.tbl_outside.specs.Bank.{LeavesOnly};
 ghost use Rattle.tbl_outside.specs.BankCalls.{Asks, read};
 ghost use Rattle.cds_layout.specs.Directory.{directory_len, directory_of, is_live};
 ghost use Rattle.cds_layout.specs.Entries.{slot_count};
-ghost use Rattle.cds_store.specs.Boots.{IsFront, SameStore, IsTidy, IsCleared, Clears, AreZeros, BeginsAt, opened_slot, found_open, found_by};
+ghost use Rattle.cds_store.specs.Boots.{WasRead, IsFront, SameStore, IsTidy, IsCleared, Clears, AreZeros, BeginsAt, opened_slot, found_open, found_by};
 ghost use Rattle.cds_layout.specs.Images.{store_of};
 ghost use Rattle.cds_layout.specs.Order.{clear_calls, strays_to, carry_calls, boot_writes, boot_calls};
 ghost use Rattle.cds_layout.specs.Lines.{AreRight};
 ghost use Rattle.cds_store.specs.Calls.{Steady, CallCounted, is_old};
 ghost use Rattle.cds_store.specs.Moments.{BootLeaves};
-ghost use Rattle.cds_store.specs.Sound.{IsSound};
+ghost use Rattle.cds_store.specs.Sound.{SoundOver, IsSound};
 ghost use Rattle.cds_store.specs.StoreBlocks.{StandsFor, kept};
+ghost use Rattle.cds_store.specs.BankSteps.{ClearsAll, Tidies, Reads, Keeps, Changes};
+ghost use Rattle.cds_store.specs.Promises.{Boots};
 
 use crate::carrying::carry;
 use crate::clearing::clear;
@@ -41,13 +43,7 @@ pub(crate) fn read_front<B: Bank>(
     ensures front { OnOk result (B.tells → IsFront front.new directory.new (B.now bank.old)) }
     ensures directory { OnOk result (directory.new ≡ directory_of front.new) }
     ensures len { length front.new ≡ directory_len }
-    ensures kept { B.tells → B.now bank.new ≡ B.now bank.old }
-    ensures moments { B.tells_moments →
-        LeavesOnly B.clock B.left_since bank.old bank.new (λ image. image ≡ B.now bank.old) }
-    ensures steady { Steady B.size B.faults B.stops bank.old bank.new }
-    ensures counted { CallCounted B.faults B.stops bank.old bank.new result }
-    ensures bank_calls { Asks B.tells_calls B.calls bank.old bank.new (is_ok result) (read 0 directory_len ∷ []) }
-    ensures not_old { IfErr result (λ fault. is_old fault ≡ false) }
+    ensures reads { Reads B.Bank bank.old bank.new (read 0 directory_len ∷ []) result }
 {
     match bank.read_at(0, front) {
         Ok(()) => {
@@ -92,14 +88,8 @@ pub(crate) fn clear_all<B: Bank>(bank: &mut B, front: &mut [u8]) -> Result<(), B
     requires room { bank_size ≤ B.size bank.old }
     requires read { B.tells → front.old ≡ piece 0 directory_len (B.now bank.old) }
     ensures len { length front.new ≡ directory_len }
-    ensures done { OnOk result (B.tells → IsCleared (B.now bank.new)) }
-    ensures left { B.tells → Clears (B.now bank.old) (B.now bank.new) }
-    ensures moments { B.tells_moments → LeavesOnly B.clock B.left_since bank.old bank.new (Clears (B.now bank.old)) }
-    ensures steady { Steady B.size B.faults B.stops bank.old bank.new }
-    ensures counted { CallCounted B.faults B.stops bank.old bank.new result }
-    ensures bank_calls { B.tells →
-        Asks B.tells_calls B.calls bank.old bank.new (is_ok result) (clear_calls (B.now bank.old)) }
-    ensures not_old { IfErr result (λ fault. is_old fault ≡ false) }
+    ensures keeps { Keeps B.Bank bank.old bank.new result }
+    ensures changes { ClearsAll B.Bank bank.old bank.new (clear_calls (B.now bank.old)) result }
 {
     let first = first_of(front);
     zero_all(front);
@@ -113,22 +103,14 @@ fn renew<B: Bank>(
     room: &mut [u8],
     directory: &Directory,
 ) -> Result<(), BankFault>
-    requires len { length front.now ≡ directory_len }
+    requires front { WasRead B.Bank bank.old front.now directory.now }
     requires buffer { length room.old ≡ 16392 }
     requires right { AreRight directory.now }
-    requires room { bank_size ≤ B.size bank.old }
-    requires read { B.tells → IsFront front.now directory.now (B.now bank.old) }
     requires live { B.tells → is_live (B.now bank.old) ≡ true }
     ensures buffer { length room.new ≡ 16392 }
-    ensures tidy { OnOk result (B.tells → IsTidy (B.now bank.old) (B.now bank.new)) }
-    ensures same { B.tells → SameStore (B.now bank.old) (B.now bank.new) }
-    ensures moments { B.tells_moments →
-        LeavesOnly B.clock B.left_since bank.old bank.new (SameStore (B.now bank.old)) }
-    ensures steady { Steady B.size B.faults B.stops bank.old bank.new }
-    ensures counted { CallCounted B.faults B.stops bank.old bank.new result }
-    ensures bank_calls { B.tells →
-        Asks B.tells_calls B.calls bank.old bank.new (is_ok result) (strays_to slot_count (B.now bank.old) (directory_of (B.now bank.old)) ++ carry_calls (B.now bank.old)) }
-    ensures not_old { IfErr result (λ fault. is_old fault ≡ false) }
+    ensures keeps { Keeps B.Bank bank.old bank.new result }
+    ensures changes { Tidies B.Bank bank.old bank.new
+        (strays_to slot_count (B.now bank.old) (directory_of (B.now bank.old)) ++ carry_calls (B.now bank.old)) result }
 {
     tidy_live(bank, front, directory)?;
     carry(bank, front, room, directory)
@@ -141,22 +123,14 @@ fn tidy<B: Bank>(
     room: &mut [u8],
     directory: &Directory,
 ) -> Result<(), BankFault>
-    requires len { length front.old ≡ directory_len }
+    requires front { WasRead B.Bank bank.old front.old directory.now }
     requires buffer { length room.old ≡ 16392 }
     requires right { AreRight directory.now }
-    requires room { bank_size ≤ B.size bank.old }
-    requires read { B.tells → IsFront front.old directory.now (B.now bank.old) }
     ensures len { length front.new ≡ directory_len }
     ensures buffer { length room.new ≡ 16392 }
-    ensures tidy { OnOk result (B.tells → IsTidy (B.now bank.old) (B.now bank.new)) }
-    ensures same { B.tells → SameStore (B.now bank.old) (B.now bank.new) }
-    ensures moments { B.tells_moments →
-        LeavesOnly B.clock B.left_since bank.old bank.new (SameStore (B.now bank.old)) }
-    ensures steady { Steady B.size B.faults B.stops bank.old bank.new }
-    ensures counted { CallCounted B.faults B.stops bank.old bank.new result }
-    ensures bank_calls { B.tells →
-        Asks B.tells_calls B.calls bank.old bank.new (is_ok result) (boot_writes Processor (B.now bank.old)) }
-    ensures not_old { IfErr result (λ fault. is_old fault ≡ false) }
+    ensures keeps { Keeps B.Bank bank.old bank.new result }
+    ensures changes { Tidies B.Bank bank.old bank.new
+        (boot_writes Processor (B.now bank.old)) result }
 {
     if is_live(front) {
         renew(bank, front, room, directory)
@@ -177,23 +151,15 @@ pub(crate) fn boot_processor<B: Bank>(
     requires directory { length directory.now ≡ slot_count }
     requires right { AreRight directory.now }
     requires buffer { length room.old ≡ 16392 }
-    requires len { length front.old ≡ directory_len }
-    requires room { bank_size ≤ B.size bank.old }
-    requires read { B.tells → IsFront front.old directory.now (B.now bank.old) }
+    requires front { WasRead B.Bank bank.old front.old directory.now }
     ensures len { length front.new ≡ directory_len }
     ensures buffer { length room.new ≡ 16392 }
     ensures found { IfOk result (λ found. found ≡ found_open slots.old.items directory.now) }
     ensures slots { OnOk result (slots.new.items ≡ map (option_map opened_slot) directory.now) }
-    ensures tidy { OnOk result (B.tells → IsTidy (B.now bank.old) (B.now bank.new)) }
     ensures err { OnErr result (slots.new.items ≡ slots.old.items) }
-    ensures same { B.tells → SameStore (B.now bank.old) (B.now bank.new) }
-    ensures moments { B.tells_moments →
-        LeavesOnly B.clock B.left_since bank.old bank.new (SameStore (B.now bank.old)) }
-    ensures steady { Steady B.size B.faults B.stops bank.old bank.new }
-    ensures counted { CallCounted B.faults B.stops bank.old bank.new result }
-    ensures bank_calls { B.tells →
-        Asks B.tells_calls B.calls bank.old bank.new (is_ok result) (boot_writes Processor (B.now bank.old)) }
-    ensures not_old { IfErr result (λ fault. is_old fault ≡ false) }
+    ensures keeps { Keeps B.Bank bank.old bank.new result }
+    ensures changes { Tidies B.Bank bank.old bank.new
+        (boot_writes Processor (B.now bank.old)) result }
 {
     tidy(bank, front, room, directory)?;
     let found = find_found(slots, directory);
@@ -214,15 +180,9 @@ pub(crate) fn boot_power_on<B: Bank>(
     ensures len { length front.new ≡ directory_len }
     ensures found { IfOk result (λ found. found ≡ []) }
     ensures slots { OnOk result (slots.new.items ≡ replicate (length slots.old.items) None) }
-    ensures cleared { OnOk result (B.tells → IsCleared (B.now bank.new)) }
     ensures err { OnErr result (slots.new.items ≡ slots.old.items) }
-    ensures left { B.tells → Clears (B.now bank.old) (B.now bank.new) }
-    ensures moments { B.tells_moments → LeavesOnly B.clock B.left_since bank.old bank.new (Clears (B.now bank.old)) }
-    ensures steady { Steady B.size B.faults B.stops bank.old bank.new }
-    ensures counted { CallCounted B.faults B.stops bank.old bank.new result }
-    ensures bank_calls { B.tells →
-        Asks B.tells_calls B.calls bank.old bank.new (is_ok result) (boot_writes PowerOn (B.now bank.old)) }
-    ensures not_old { IfErr result (λ fault. is_old fault ≡ false) }
+    ensures keeps { Keeps B.Bank bank.old bank.new result }
+    ensures changes { ClearsAll B.Bank bank.old bank.new (boot_writes PowerOn (B.now bank.old)) result }
 {
     clear_all(bank, front)?;
     forget_all(slots);
@@ -239,29 +199,15 @@ fn boot_as<B: Bank>(
     kind: ResetKind,
 ) -> Result<Slots, BankFault>
     requires slots { length slots.old.items ≡ slot_count }
-    requires len { length front.old ≡ directory_len }
+    requires front { WasRead B.Bank bank.old front.old directory.now }
     requires buffer { length room.old ≡ 16392 }
     requires directory { directory.now ≡ directory_of front.old }
-    requires room { bank_size ≤ B.size bank.old }
-    requires read { B.tells → IsFront front.old directory.now (B.now bank.old) }
     ensures len { length front.new ≡ directory_len }
     ensures buffer { length room.new ≡ 16392 }
-    ensures sound { OnOk result (IsSound B.tells B.size B.now (kept slots.new.items bank.new)) }
-    ensures ok { IfOk result (λ found. B.tells → (blocks : Blocks) →
-        BeginsAt B.tells B.now (kept slots.old.items bank.old) blocks →
-        StandsFor B.tells B.now (kept slots.new.items bank.new) (booted kind found blocks)) }
-    ensures found { IfOk result (λ found. B.tells → found ≡ found_by kind slots.old.items (store_of (B.now bank.old))) }
+    ensures sound { OnOk result (SoundOver B.Bank slots.new.items bank.new) }
     ensures err { OnErr result (slots.new.items ≡ slots.old.items) }
-    ensures left { B.tells → (blocks : Blocks) → BeginsAt B.tells B.now (kept slots.old.items bank.old) blocks →
-        BootLeaves kind blocks (B.now bank.new) }
-    ensures moments { B.tells_moments → (blocks : Blocks) →
-        BeginsAt B.tells B.now (kept slots.old.items bank.old) blocks →
-        LeavesOnly B.clock B.left_since bank.old bank.new (BootLeaves kind blocks) }
-    ensures steady { Steady B.size B.faults B.stops bank.old bank.new }
-    ensures counted { CallCounted B.faults B.stops bank.old bank.new result }
-    ensures bank_calls { B.tells →
-        Asks B.tells_calls B.calls bank.old bank.new (is_ok result) (boot_writes kind (B.now bank.old)) }
-    ensures not_old { IfErr result (λ fault. is_old fault ≡ false) }
+    ensures boots { Boots B.Bank (kept slots.old.items bank.old) (kept slots.new.items bank.new) kind
+        (boot_writes kind (B.now bank.old)) result }
 {
     match kind {
         ResetKind::Processor => boot_processor(bank, slots, front, room, directory),
@@ -284,22 +230,10 @@ pub(crate) fn boot<B: Bank>(
     requires room { bank_size ≤ B.size bank.old }
     ensures len { length front.new ≡ directory_len }
     ensures buffer { length room.new ≡ 16392 }
-    ensures sound { OnOk result (IsSound B.tells B.size B.now (kept slots.new.items bank.new)) }
-    ensures ok { IfOk result (λ found. B.tells → (blocks : Blocks) →
-        BeginsAt B.tells B.now (kept slots.old.items bank.old) blocks →
-        StandsFor B.tells B.now (kept slots.new.items bank.new) (booted kind found blocks)) }
-    ensures found { IfOk result (λ found. B.tells → found ≡ found_by kind slots.old.items (store_of (B.now bank.old))) }
+    ensures sound { OnOk result (SoundOver B.Bank slots.new.items bank.new) }
     ensures err { OnErr result (slots.new.items ≡ slots.old.items) }
-    ensures left { B.tells → (blocks : Blocks) → BeginsAt B.tells B.now (kept slots.old.items bank.old) blocks →
-        BootLeaves kind blocks (B.now bank.new) }
-    ensures moments { B.tells_moments → (blocks : Blocks) →
-        BeginsAt B.tells B.now (kept slots.old.items bank.old) blocks →
-        LeavesOnly B.clock B.left_since bank.old bank.new (BootLeaves kind blocks) }
-    ensures steady { Steady B.size B.faults B.stops bank.old bank.new }
-    ensures counted { CallCounted B.faults B.stops bank.old bank.new result }
-    ensures bank_calls { B.tells →
-        Asks B.tells_calls B.calls bank.old bank.new (is_ok result) (boot_calls kind (B.now bank.old)) }
-    ensures not_old { IfErr result (λ fault. is_old fault ≡ false) }
+    ensures boots { Boots B.Bank (kept slots.old.items bank.old) (kept slots.new.items bank.new) kind
+        (boot_calls kind (B.now bank.old)) result }
 {
     read_front(bank, front, directory)?;
     boot_as(bank, slots, front, room, directory, kind)

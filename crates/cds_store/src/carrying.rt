@@ -14,6 +14,7 @@ ghost use Rattle.cds_layout.specs.Order.{carried_turns, carry_at, carried_to, ca
 ghost use Rattle.cds_layout.specs.declared.turns.Place.TheVariants as place;
 ghost use Rattle.cds_store.specs.Boots.{IsFront, SameStore, Tidied, Carried, IsTidy};
 ghost use Rattle.cds_store.specs.Calls.{Steady, CallCounted, is_old};
+ghost use Rattle.cds_store.specs.BankSteps.{Reads, Keeps, Changes};
 
 use crate::fault::BankFault;
 use crate::writes::write;
@@ -42,13 +43,7 @@ fn first_shows<B: Bank>(bank: &mut B, block: &Block, room: &mut [u8]) -> Result<
     requires room { bank_size ≤ B.size bank.old }
     ensures buffer { length room.new ≡ 16392 }
     ensures whole { IfOk result (λ whole. B.tells → whole ≡ is_whole (B.now bank.old) block.now place.First) }
-    ensures kept { B.tells → B.now bank.new ≡ B.now bank.old }
-    ensures moments { B.tells_moments →
-        LeavesOnly B.clock B.left_since bank.old bank.new (λ image. image ≡ B.now bank.old) }
-    ensures steady { Steady B.size B.faults B.stops bank.old bank.new }
-    ensures counted { CallCounted B.faults B.stops bank.old bank.new result }
-    ensures bank_calls { Asks B.tells_calls B.calls bank.old bank.new (is_ok result) (read block.now.offset (head_len + block.now.size) ∷ []) }
-    ensures not_old { IfErr result (λ fault. is_old fault ≡ false) }
+    ensures reads { Reads B.Bank bank.old bank.new (read block.now.offset (head_len + block.now.size) ∷ []) result }
 {
     match read_first(bank, block, room) {
         Ok(whole) => Ok(whole),
@@ -71,16 +66,11 @@ fn carry_block<B: Bank>(
     requires buffer { length room.old ≡ 16392 }
     requires room { bank_size ≤ B.size bank.old }
     ensures buffer { length room.new ≡ 16392 }
-    ensures done { OnOk result (B.tells → (old : List ℕ) → slice_index_or (directory_of old) slot None ≡ Some block.now →
-        Carried old (B.now bank.old) slot → Carried old (B.now bank.new) (slot + 1)) }
-    ensures same { B.tells → (old : List ℕ) → Carried old (B.now bank.old) slot → SameStore old (B.now bank.new) }
-    ensures moments { B.tells_moments → (old : List ℕ) → Carried old (B.now bank.old) slot →
-        LeavesOnly B.clock B.left_since bank.old bank.new (SameStore old) }
-    ensures steady { Steady B.size B.faults B.stops bank.old bank.new }
-    ensures counted { CallCounted B.faults B.stops bank.old bank.new result }
-    ensures bank_calls { B.tells →
-        Asks B.tells_calls B.calls bank.old bank.new (is_ok result) (carry_at (B.now bank.old) slot (Some block.now)) }
-    ensures not_old { IfErr result (λ fault. is_old fault ≡ false) }
+    ensures keeps { Keeps B.Bank bank.old bank.new result }
+    ensures changes { (old : List ℕ) → (B.tells → slice_index_or (directory_of old) slot None ≡ Some block.now) →
+        (B.tells → Carried old (B.now bank.old) slot) →
+        Changes B.Bank bank.old bank.new (λ image. Carried old image (slot + 1)) (SameStore old)
+        (carry_at (B.now bank.old) slot (Some block.now)) result }
 {
     let whole = first_shows(bank, block, room)?;
     write(bank, turns_place(slot), &carried_turns(whole), false, false)
@@ -98,16 +88,10 @@ fn carry_slot<B: Bank>(
     requires buffer { length room.old ≡ 16392 }
     requires room { bank_size ≤ B.size bank.old }
     ensures buffer { length room.new ≡ 16392 }
-    ensures done { OnOk result (B.tells → (old : List ℕ) → directory.now ≡ directory_of old →
-        Carried old (B.now bank.old) slot → Carried old (B.now bank.new) (slot + 1)) }
-    ensures same { B.tells → (old : List ℕ) → Carried old (B.now bank.old) slot → SameStore old (B.now bank.new) }
-    ensures moments { B.tells_moments → (old : List ℕ) → Carried old (B.now bank.old) slot →
-        LeavesOnly B.clock B.left_since bank.old bank.new (SameStore old) }
-    ensures steady { Steady B.size B.faults B.stops bank.old bank.new }
-    ensures counted { CallCounted B.faults B.stops bank.old bank.new result }
-    ensures bank_calls { B.tells → Asks B.tells_calls B.calls bank.old bank.new (is_ok result)
-        (carry_at (B.now bank.old) slot (slice_index_or directory.now slot None)) }
-    ensures not_old { IfErr result (λ fault. is_old fault ≡ false) }
+    ensures keeps { Keeps B.Bank bank.old bank.new result }
+    ensures changes { (old : List ℕ) → (B.tells → directory.now ≡ directory_of old) → (B.tells → Carried old (B.now bank.old) slot) →
+        Changes B.Bank bank.old bank.new (λ image. Carried old image (slot + 1)) (SameStore old)
+        (carry_at (B.now bank.old) slot (slice_index_or directory.now slot None)) result }
 {
     match directory.slot(slot) {
         Some(block) => carry_block(bank, slot, block, room),
@@ -125,17 +109,10 @@ fn carry_blocks<B: Bank>(
     requires buffer { length room.old ≡ 16392 }
     requires room { bank_size ≤ B.size bank.old }
     ensures buffer { length room.new ≡ 16392 }
-    ensures done { OnOk result (B.tells → (old : List ℕ) → directory.now ≡ directory_of old →
-        Carried old (B.now bank.old) 0 → Carried old (B.now bank.new) slot_count) }
-    ensures same { B.tells → (old : List ℕ) → directory.now ≡ directory_of old →
-        Carried old (B.now bank.old) 0 → SameStore old (B.now bank.new) }
-    ensures moments { B.tells_moments → (old : List ℕ) → directory.now ≡ directory_of old →
-        Carried old (B.now bank.old) 0 → LeavesOnly B.clock B.left_since bank.old bank.new (SameStore old) }
-    ensures steady { Steady B.size B.faults B.stops bank.old bank.new }
-    ensures counted { CallCounted B.faults B.stops bank.old bank.new result }
-    ensures bank_calls { B.tells → (old : List ℕ) → directory.now ≡ directory_of old → Carried old (B.now bank.old) 0 →
-        Asks B.tells_calls B.calls bank.old bank.new (is_ok result) (carried_to slot_count old (directory_of old)) }
-    ensures not_old { IfErr result (λ fault. is_old fault ≡ false) }
+    ensures keeps { Keeps B.Bank bank.old bank.new result }
+    ensures changes { (old : List ℕ) → (B.tells → directory.now ≡ directory_of old) → (B.tells → Carried old (B.now bank.old) 0) →
+        Changes B.Bank bank.old bank.new (λ image. Carried old image slot_count) (SameStore old)
+        (carried_to slot_count old (directory_of old)) result }
 {
     for slot in 0..SLOTS {
         carry_slot(bank, directory, slot, room)?;
@@ -146,14 +123,9 @@ fn carry_blocks<B: Bank>(
 /// Writes the version. From now on the turn bytes count.
 fn write_version<B: Bank>(bank: &mut B) -> Result<(), BankFault>
     requires room { bank_size ≤ B.size bank.old }
-    ensures done { OnOk result (B.tells → (old : List ℕ) → Carried old (B.now bank.old) slot_count → IsTidy old (B.now bank.new)) }
-    ensures same { B.tells → (old : List ℕ) → Carried old (B.now bank.old) slot_count → SameStore old (B.now bank.new) }
-    ensures moments { B.tells_moments → (old : List ℕ) → Carried old (B.now bank.old) slot_count →
-        LeavesOnly B.clock B.left_since bank.old bank.new (SameStore old) }
-    ensures steady { Steady B.size B.faults B.stops bank.old bank.new }
-    ensures counted { CallCounted B.faults B.stops bank.old bank.new result }
-    ensures bank_calls { Asks B.tells_calls B.calls bank.old bank.new (is_ok result) (write version_place (0x32 ∷ []) ∷ []) }
-    ensures not_old { IfErr result (λ fault. is_old fault ≡ false) }
+    ensures keeps { Keeps B.Bank bank.old bank.new result }
+    ensures changes { (old : List ℕ) → (B.tells → Carried old (B.now bank.old) slot_count) →
+        Changes B.Bank bank.old bank.new (IsTidy old) (SameStore old) (write version_place (0x32 ∷ []) ∷ []) result }
 {
     write(bank, VERSION_PLACE, &[VERSION], false, false)
 }
@@ -168,18 +140,10 @@ fn carry_over<B: Bank>(
     requires buffer { length room.old ≡ 16392 }
     requires room { bank_size ≤ B.size bank.old }
     ensures buffer { length room.new ≡ 16392 }
-    ensures done { OnOk result (B.tells → (old : List ℕ) → directory.now ≡ directory_of old →
-        Carried old (B.now bank.old) 0 → IsTidy old (B.now bank.new)) }
-    ensures same { B.tells → (old : List ℕ) → directory.now ≡ directory_of old →
-        Carried old (B.now bank.old) 0 → SameStore old (B.now bank.new) }
-    ensures moments { B.tells_moments → (old : List ℕ) → directory.now ≡ directory_of old →
-        Carried old (B.now bank.old) 0 → LeavesOnly B.clock B.left_since bank.old bank.new (SameStore old) }
-    ensures steady { Steady B.size B.faults B.stops bank.old bank.new }
-    ensures counted { CallCounted B.faults B.stops bank.old bank.new result }
-    ensures bank_calls { B.tells → (old : List ℕ) → directory.now ≡ directory_of old → Carried old (B.now bank.old) 0 →
-        Asks B.tells_calls B.calls bank.old bank.new (is_ok result)
-        (carried_to slot_count old (directory_of old) ++ write version_place (0x32 ∷ []) ∷ []) }
-    ensures not_old { IfErr result (λ fault. is_old fault ≡ false) }
+    ensures keeps { Keeps B.Bank bank.old bank.new result }
+    ensures changes { (old : List ℕ) → (B.tells → directory.now ≡ directory_of old) → (B.tells → Carried old (B.now bank.old) 0) →
+        Changes B.Bank bank.old bank.new (IsTidy old) (SameStore old)
+        (carried_to slot_count old (directory_of old) ++ write version_place (0x32 ∷ []) ∷ []) result }
 {
     carry_blocks(bank, directory, room)?;
     write_version(bank)
@@ -198,18 +162,10 @@ pub(crate) fn carry<B: Bank>(
     requires buffer { length room.old ≡ 16392 }
     requires room { bank_size ≤ B.size bank.old }
     ensures buffer { length room.new ≡ 16392 }
-    ensures done { OnOk result (B.tells → (old : List ℕ) → IsFront front.now directory.now old →
-        Tidied old (B.now bank.old) slot_count → IsTidy old (B.now bank.new)) }
-    ensures same { B.tells → (old : List ℕ) → IsFront front.now directory.now old →
-        Tidied old (B.now bank.old) slot_count → SameStore old (B.now bank.new) }
-    ensures moments { B.tells_moments → (old : List ℕ) → IsFront front.now directory.now old →
-        Tidied old (B.now bank.old) slot_count → LeavesOnly B.clock B.left_since bank.old bank.new (SameStore old) }
-    ensures steady { Steady B.size B.faults B.stops bank.old bank.new }
-    ensures counted { CallCounted B.faults B.stops bank.old bank.new result }
-    ensures bank_calls { B.tells → (old : List ℕ) → IsFront front.now directory.now old →
-        Tidied old (B.now bank.old) slot_count →
-        Asks B.tells_calls B.calls bank.old bank.new (is_ok result) (carry_calls old) }
-    ensures not_old { IfErr result (λ fault. is_old fault ≡ false) }
+    ensures keeps { Keeps B.Bank bank.old bank.new result }
+    ensures changes { (old : List ℕ) → (B.tells → IsFront front.now directory.now old) →
+        (B.tells → Tidied old (B.now bank.old) slot_count) →
+        Changes B.Bank bank.old bank.new (IsTidy old) (SameStore old) (carry_calls old) result }
 {
     if is_first_version(front) {
         carry_over(bank, room, directory)

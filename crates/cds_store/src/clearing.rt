@@ -8,6 +8,7 @@ ghost use Rattle.tbl_outside.specs.BankCalls.{Asks, write};
 ghost use Rattle.cds_layout.specs.Order.{clear_by};
 ghost use Rattle.cds_store.specs.Boots.{is_dead, HasMark, AllShut, AreZeros, IsCleared, IsEmptied, Clears};
 ghost use Rattle.cds_store.specs.Calls.{Steady, CallCounted, is_old};
+ghost use Rattle.cds_store.specs.BankSteps.{ClearsAll, Keeps, Changes};
 
 use crate::fault::BankFault;
 use crate::writes::write;
@@ -24,13 +25,8 @@ const MARK_PLACE: u32 = 1;
 fn close_live<B: Bank>(bank: &mut B, first: u8) -> Result<(), BankFault>
     requires room { bank_size ≤ B.size bank.old }
     requires read { B.tells → first ≡ byte_at 0 (B.now bank.old) }
-    ensures done { OnOk result (B.tells → is_dead (B.now bank.new) ≡ true) }
-    ensures left { B.tells → Clears (B.now bank.old) (B.now bank.new) }
-    ensures moments { B.tells_moments → LeavesOnly B.clock B.left_since bank.old bank.new (Clears (B.now bank.old)) }
-    ensures steady { Steady B.size B.faults B.stops bank.old bank.new }
-    ensures counted { CallCounted B.faults B.stops bank.old bank.new result }
-    ensures bank_calls { Asks B.tells_calls B.calls bank.old bank.new (is_ok result) (if first == 0x43 then write 0 (0 ∷ []) ∷ [] else []) }
-    ensures not_old { IfErr result (λ fault. is_old fault ≡ false) }
+    ensures keeps { Keeps B.Bank bank.old bank.new result }
+    ensures changes { Changes B.Bank bank.old bank.new (λ image. is_dead image ≡ true) (Clears (B.now bank.old)) (if first == 0x43 then write 0 (0 ∷ []) ∷ [] else []) result }
 {
     if first == LIVE {
         write(bank, 0, &[0], false, false)
@@ -43,14 +39,9 @@ fn close_live<B: Bank>(bank: &mut B, first: u8) -> Result<(), BankFault>
 fn write_mark<B: Bank>(bank: &mut B) -> Result<(), BankFault>
     requires room { bank_size ≤ B.size bank.old }
     requires dead { B.tells → is_dead (B.now bank.old) ≡ true }
-    ensures mark { OnOk result (B.tells → HasMark (B.now bank.new)) }
     ensures dead { B.tells → is_dead (B.now bank.new) ≡ true }
-    ensures left { B.tells → IsEmptied (B.now bank.new) }
-    ensures moments { B.tells_moments → LeavesOnly B.clock B.left_since bank.old bank.new IsEmptied }
-    ensures steady { Steady B.size B.faults B.stops bank.old bank.new }
-    ensures counted { CallCounted B.faults B.stops bank.old bank.new result }
-    ensures bank_calls { Asks B.tells_calls B.calls bank.old bank.new (is_ok result) (write 1 (0x44 ∷ 0x53 ∷ 0x32 ∷ replicate 12 0) ∷ []) }
-    ensures not_old { IfErr result (λ fault. is_old fault ≡ false) }
+    ensures keeps { Keeps B.Bank bank.old bank.new result }
+    ensures changes { Changes B.Bank bank.old bank.new HasMark IsEmptied (write 1 (0x44 ∷ 0x53 ∷ 0x32 ∷ replicate 12 0) ∷ []) result }
 {
     write(
         bank,
@@ -69,13 +60,8 @@ fn write_entries<B: Bank>(bank: &mut B, zeros: &[u8]) -> Result<(), BankFault>
     requires len { length zeros.now ≡ 8192 }
     requires zeros { AreZeros zeros.now }
     ensures mark { B.tells → HasMark (B.now bank.new) }
-    ensures shut { OnOk result (B.tells → AllShut (B.now bank.new)) }
-    ensures left { B.tells → IsEmptied (B.now bank.new) }
-    ensures moments { B.tells_moments → LeavesOnly B.clock B.left_since bank.old bank.new IsEmptied }
-    ensures steady { Steady B.size B.faults B.stops bank.old bank.new }
-    ensures counted { CallCounted B.faults B.stops bank.old bank.new result }
-    ensures bank_calls { Asks B.tells_calls B.calls bank.old bank.new (is_ok result) (write 16 zeros.now ∷ []) }
-    ensures not_old { IfErr result (λ fault. is_old fault ≡ false) }
+    ensures keeps { Keeps B.Bank bank.old bank.new result }
+    ensures changes { Changes B.Bank bank.old bank.new AllShut IsEmptied (write 16 zeros.now ∷ []) result }
 {
     write(bank, ENTRIES_PLACE, zeros, false, false)
 }
@@ -85,13 +71,8 @@ fn open_live<B: Bank>(bank: &mut B) -> Result<(), BankFault>
     requires room { bank_size ≤ B.size bank.old }
     requires mark { B.tells → HasMark (B.now bank.old) }
     requires shut { B.tells → AllShut (B.now bank.old) }
-    ensures done { OnOk result (B.tells → IsCleared (B.now bank.new)) }
-    ensures left { B.tells → IsEmptied (B.now bank.new) }
-    ensures moments { B.tells_moments → LeavesOnly B.clock B.left_since bank.old bank.new IsEmptied }
-    ensures steady { Steady B.size B.faults B.stops bank.old bank.new }
-    ensures counted { CallCounted B.faults B.stops bank.old bank.new result }
-    ensures bank_calls { Asks B.tells_calls B.calls bank.old bank.new (is_ok result) (write 0 (0x43 ∷ []) ∷ []) }
-    ensures not_old { IfErr result (λ fault. is_old fault ≡ false) }
+    ensures keeps { Keeps B.Bank bank.old bank.new result }
+    ensures changes { Changes B.Bank bank.old bank.new IsCleared IsEmptied (write 0 (0x43 ∷ []) ∷ []) result }
 {
     write(bank, 0, &[LIVE], false, false)
 }
@@ -103,13 +84,8 @@ pub(crate) fn clear<B: Bank>(bank: &mut B, first: u8, zeros: &[u8]) -> Result<()
     requires read { B.tells → first ≡ byte_at 0 (B.now bank.old) }
     requires len { length zeros.now ≡ 8192 }
     requires zeros { AreZeros zeros.now }
-    ensures done { OnOk result (B.tells → IsCleared (B.now bank.new)) }
-    ensures left { B.tells → Clears (B.now bank.old) (B.now bank.new) }
-    ensures moments { B.tells_moments → LeavesOnly B.clock B.left_since bank.old bank.new (Clears (B.now bank.old)) }
-    ensures steady { Steady B.size B.faults B.stops bank.old bank.new }
-    ensures counted { CallCounted B.faults B.stops bank.old bank.new result }
-    ensures bank_calls { Asks B.tells_calls B.calls bank.old bank.new (is_ok result) (clear_by first zeros.now) }
-    ensures not_old { IfErr result (λ fault. is_old fault ≡ false) }
+    ensures keeps { Keeps B.Bank bank.old bank.new result }
+    ensures changes { ClearsAll B.Bank bank.old bank.new (clear_by first zeros.now) result }
 {
     close_live(bank, first)?;
     write_mark(bank)?;

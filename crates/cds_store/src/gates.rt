@@ -10,8 +10,9 @@ ghost use Rattle.tbl_outside.specs.BankCalls.{Asks};
 ghost use Rattle.cds_layout.specs.Order.{delete_calls};
 ghost use Rattle.cds_store.specs.Calls.{Steady, CallCounted, HasFlags};
 ghost use Rattle.cds_store.specs.Moments.{LeavesIn};
-ghost use Rattle.cds_store.specs.Sound.{slot_at, IsSound};
+ghost use Rattle.cds_store.specs.Sound.{SoundOver, slot_at, IsSound};
 ghost use Rattle.cds_store.specs.StoreBlocks.{StandsFor, kept, doubted};
+ghost use Rattle.cds_store.specs.Promises.{Deletes};
 
 use crate::fault::BankFault;
 use crate::slot::Slot;
@@ -36,21 +37,10 @@ pub(crate) fn close<B: Bank>(
     slot: u8,
     old: bool,
 ) -> Result<(), BankFault>
-    requires sound { IsSound B.tells B.size B.now (kept slots.old.items bank.old) }
+    requires sound { SoundOver B.Bank slots.old.items bank.old }
     requires taken { IsSome (slot_at slots.old.items slot) }
-    ensures sound { IsSound B.tells B.size B.now (kept slots.new.items bank.new) }
-    ensures ok { OnOk result ((blocks : Blocks) → StandsFor B.tells B.now (kept slots.old.items bank.old) blocks →
-        StandsFor B.tells B.now (kept slots.new.items bank.new) (deleted slot blocks)) }
-    ensures err { OnErr result ((blocks : Blocks) → StandsFor B.tells B.now (kept slots.old.items bank.old) blocks →
-        StandsFor B.tells B.now (kept slots.new.items bank.new) (delete_broken slot blocks)) }
-    ensures moments { B.tells_moments → (blocks : Blocks) →
-        StandsFor B.tells B.now (kept slots.old.items bank.old) blocks →
-        LeavesOnly B.clock B.left_since bank.old bank.new (LeavesIn (delete slot) blocks) }
-    ensures freed { OnOk result (slots.new.items ≡ slice_set slots.old.items slot None) }
-    ensures steady { Steady B.size B.faults B.stops bank.old bank.new }
-    ensures counted { CallCounted B.faults B.stops bank.old bank.new result }
-    ensures bank_calls { Asks B.tells_calls B.calls bank.old bank.new (is_ok result) (delete_calls slot) }
-    ensures flags { IfErr result (HasFlags true old) }
+    ensures sound { SoundOver B.Bank slots.new.items bank.new }
+    ensures deletes { Deletes B.Bank (kept slots.old.items bank.old) (kept slots.new.items bank.new) slot old result }
 {
     match set_gate(bank, slot, GATE_CLOSED, old) {
         Ok(()) => {

@@ -9,8 +9,9 @@ ghost use Rattle.cds_layout.specs.Images.{turned_in};
 ghost use Rattle.cds_layout.specs.Order.{make_calls};
 ghost use Rattle.cds_store.specs.Calls.{Steady, CallCounted, HasFlags, is_gate, is_old};
 ghost use Rattle.cds_store.specs.Moments.{ShowsIn};
-ghost use Rattle.cds_store.specs.Sound.{slot_at, IsSound, IsNew};
+ghost use Rattle.cds_store.specs.Sound.{SoundOver, slot_at, IsSound, IsNew};
 ghost use Rattle.cds_store.specs.StoreBlocks.{StandsFor, kept, with_new, made_or_not};
+ghost use Rattle.cds_store.specs.BankSteps.{AsksFor, Alters};
 
 use crate::fault::BankFault;
 use crate::slot::Slot;
@@ -26,19 +27,13 @@ fn open_gate<B: Bank>(
     slot: u8,
     block: Block,
 ) -> Result<(), BankFault>
-    requires sound { IsSound B.tells B.size B.now (kept slots.old.items bank.old) }
+    requires sound { SoundOver B.Bank slots.old.items bank.old }
     requires new { IsNew slot slots.old.items block }
     requires entry { B.tells → block_in (told_at (B.now bank.old) slot) ≡ Some block }
     requires none { B.tells → turned_in (B.now bank.old) slot ≡ None }
-    ensures sound { IsSound B.tells B.size B.now (kept slots.new.items bank.new) }
-    ensures made { (blocks : Blocks) → StandsFor B.tells B.now (kept slots.old.items bank.old) blocks →
-        StandsFor B.tells B.now (kept slots.new.items bank.new) (with_new (is_err result) slot block blocks) }
-    ensures moments { B.tells_moments → (blocks : Blocks) →
-        StandsFor B.tells B.now (kept slots.old.items bank.old) blocks →
-        LeavesOnly B.clock B.left_since bank.old bank.new (ShowsIn (with_new true slot block blocks)) }
-    ensures steady { Steady B.size B.faults B.stops bank.old bank.new }
-    ensures counted { CallCounted B.faults B.stops bank.old bank.new result }
-    ensures bank_calls { Asks B.tells_calls B.calls bank.old bank.new (is_ok result) (write (gate_place slot) (gate_open ∷ []) ∷ []) }
+    ensures alters { Alters B.Bank (kept slots.old.items bank.old) (kept slots.new.items bank.new) (with_new false slot block)
+        (λ fault. with_new true slot block) (λ blocks. ShowsIn (with_new true slot block blocks)) result }
+    ensures bank_calls { AsksFor B.Bank bank.old bank.new (write (gate_place slot) (gate_open ∷ []) ∷ []) result }
     ensures flags { IfErr result (HasFlags true false) }
 {
     let written = set_gate(bank, slot, GATE_OPEN, false);
@@ -57,22 +52,13 @@ pub(crate) fn make<B: Bank>(
     slot: u8,
     block: Block,
 ) -> Result<(), BankFault>
-    requires sound { IsSound B.tells B.size B.now (kept slots.old.items bank.old) }
+    requires sound { SoundOver B.Bank slots.old.items bank.old }
     requires new { IsNew slot slots.old.items block }
-    ensures sound { IsSound B.tells B.size B.now (kept slots.new.items bank.new) }
-    ensures ok { OnOk result ((blocks : Blocks) → StandsFor B.tells B.now (kept slots.old.items bank.old) blocks →
-        StandsFor B.tells B.now (kept slots.new.items bank.new) (with_new false slot block blocks)) }
-    ensures err { IfErr result (λ fault. (blocks : Blocks) →
-        StandsFor B.tells B.now (kept slots.old.items bank.old) blocks →
-        StandsFor B.tells B.now (kept slots.new.items bank.new) (made_or_not (is_gate fault) slot block blocks)) }
-    ensures moments { B.tells_moments → (blocks : Blocks) →
-        StandsFor B.tells B.now (kept slots.old.items bank.old) blocks →
-        LeavesOnly B.clock B.left_since bank.old bank.new
-        (λ image. ShowsIn blocks image ⊎ ShowsIn (with_new true slot block blocks) image) }
-    ensures steady { Steady B.size B.faults B.stops bank.old bank.new }
-    ensures counted { CallCounted B.faults B.stops bank.old bank.new result }
-    ensures bank_calls { Asks B.tells_calls B.calls bank.old bank.new (is_ok result) (make_calls slot block) }
-    ensures flags { IfErr result (λ fault. is_old fault ≡ false) }
+    ensures alters { Alters B.Bank (kept slots.old.items bank.old) (kept slots.new.items bank.new) (with_new false slot block)
+        (λ fault. made_or_not (is_gate fault) slot block)
+        (λ blocks image. ShowsIn blocks image ⊎ ShowsIn (with_new true slot block blocks) image) result }
+    ensures bank_calls { AsksFor B.Bank bank.old bank.new (make_calls slot block) result }
+    ensures not_old { IfErr result (λ fault. is_old fault ≡ false) }
 {
     write_entry(bank, slot, &block)?;
     open_gate(bank, slots, slot, block)

@@ -10,9 +10,10 @@ ghost use Rattle.tbl_outside.specs.Bank.{LeavesOnly};
 ghost use Rattle.tbl_outside.specs.BankCalls.{Asks};
 ghost use Rattle.tbl_outside.specs.Counts.{Still};
 ghost use Rattle.cds_store.specs.Moments.{ShowsIn};
-ghost use Rattle.cds_store.specs.Recovery.{Recovers, RecoverCounted, ShowsStill, open_reads, recover_calls};
+ghost use Rattle.cds_store.specs.Recovery.{ShowsOn, cause_of, Recovers, RecoverCounted, ShowsStill, open_reads, recover_calls, Restored, NotRestored, Recovered, NotRecovered};
 ghost use Rattle.cds_store.specs.Sound.{slot_at, IsOpenOf};
 ghost use Rattle.cds_store.specs.StoreBlocks.{StandsFor};
+ghost use Rattle.cds_store.specs.BankSteps.{Meanwhile};
 
 use crate::fault::BankFault;
 use crate::store::Store;
@@ -68,19 +69,10 @@ fn restore_open<B: Bank>(
     name: &Name40,
 ) -> Result<Option<Vec<u8>>, RecoverFault>
     requires booted { store.old.booted ≡ true }
-    ensures image { IfOk result (λ image. B.tells → (blocks : Blocks) → StandsFor B.tells B.now store.old blocks →
-        Recovers kind name.now blocks (option_map (λ v. v.items) image)) }
-    ensures none { IfOk result (λ image. (blocks : Blocks) → StandsFor B.tells B.now store.old blocks →
-        open_of kind name.now blocks ≡ None → option_map (λ v. v.items) image ≡ None) }
+    ensures restored { IfOk result (λ image. Restored B.Bank store.old store.new kind name.now (option_map (λ v. v.items) image)) }
+    ensures not_restored { IfErr result (NotRestored B.Bank store.old store.new kind name.now) }
     ensures bytes { B.tells → B.now store.new.bank ≡ B.now store.old.bank }
-    ensures moments { B.tells_moments →
-        LeavesOnly B.clock B.left_since store.old.bank store.new.bank (λ image. image ≡ B.now store.old.bank) }
-    ensures still { OnOk result (Still B.faults B.stops store.old.bank store.new.bank) }
-    ensures fault { IfErr result (RecoverCounted B.faults B.stops store.old.bank store.new.bank) }
-    ensures calls_ok { OnOk result (B.tells → (blocks : Blocks) → StandsFor B.tells B.now store.old blocks →
-        Asks B.tells_calls B.calls store.old.bank store.new.bank true (open_reads kind name.now blocks (B.now store.old.bank))) }
-    ensures calls_err { IfErr result (λ fault. (fault ≢ RecoverFault.Memory) → B.tells → (blocks : Blocks) → StandsFor B.tells B.now store.old blocks →
-        Asks B.tells_calls B.calls store.old.bank store.new.bank false (open_reads kind name.now blocks (B.now store.old.bank))) }
+    ensures moments { Meanwhile B.Bank store.old.bank store.new.bank (λ image. image ≡ B.now store.old.bank) }
 {
     let Some((slot, size)) = find_open_block(store, kind, name) else {
         return Ok(None);
@@ -94,6 +86,16 @@ fn restore_open<B: Bank>(
     }
 }
 
+/// Why a boot that broke off recovers nothing.
+fn cause_of(fault: BankFault) -> RecoverFault
+    ensures { result ≡ cause_of fault }
+{
+    match fault {
+        BankFault::Fault { .. } => RecoverFault::Fault,
+        BankFault::Stopped { .. } => RecoverFault::Stopped,
+    }
+}
+
 /// The image that a booted store has of the open block of this kind and name.
 fn boot_and_restore<B: Bank>(
     alloc: Global,
@@ -101,24 +103,13 @@ fn boot_and_restore<B: Bank>(
     kind: BlockKind,
     name: &Name40,
 ) -> Result<Option<Vec<u8>>, RecoverFault>
-    ensures image { IfOk result (λ image. B.tells → (blocks : Blocks) → Shows blocks (store_of (B.now store.old.bank)) →
-        Recovers kind name.now blocks (option_map (λ v. v.items) image)) }
-    ensures none { IfOk result (λ image. B.tells → open_of kind name.now (store_of (B.now store.old.bank)) ≡ None →
-        option_map (λ v. v.items) image ≡ None) }
-    ensures left { B.tells → ShowsIn (store_of (B.now store.old.bank)) (B.now store.new.bank) }
-    ensures moments { B.tells_moments →
-        LeavesOnly B.clock B.left_since store.old.bank store.new.bank (ShowsIn (store_of (B.now store.old.bank))) }
-    ensures still { OnOk result (Still B.faults B.stops store.old.bank store.new.bank) }
-    ensures fault { IfErr result (RecoverCounted B.faults B.stops store.old.bank store.new.bank) }
-    ensures calls_ok { OnOk result (B.tells →
-        Asks B.tells_calls B.calls store.old.bank store.new.bank true (recover_calls kind name.now (B.now store.old.bank) (B.now store.new.bank))) }
-    ensures calls_err { IfErr result (λ fault. (fault ≢ RecoverFault.Memory) → B.tells →
-        Asks B.tells_calls B.calls store.old.bank store.new.bank false (recover_calls kind name.now (B.now store.old.bank) (B.now store.new.bank))) }
+    ensures shows { ShowsOn B.Bank store.old.bank store.new.bank }
+    ensures recovered { IfOk result (λ image. Recovered B.Bank store.old.bank store.new.bank kind name.now (option_map (λ v. v.items) image)) }
+    ensures not_recovered { IfErr result (NotRecovered B.Bank store.old.bank store.new.bank kind name.now) }
 {
     match store.boot(ResetKind::Processor) {
         Ok(_found) => restore_open(alloc, store, kind, name),
-        Err(BankFault::Fault { .. }) => Err(RecoverFault::Fault),
-        Err(BankFault::Stopped { .. }) => Err(RecoverFault::Stopped),
+        Err(fault) => Err(cause_of(fault)),
     }
 }
 
@@ -133,20 +124,10 @@ pub fn recover<B: Bank>(
     name: &Name40,
 ) -> Result<(Option<Vec<u8>>, B), Back<RecoverFault, B>>
     requires { bank_size ≤ B.size bank }
-    ensures image { IfOk result (λ told. B.tells → (blocks : Blocks) → Shows blocks (store_of (B.now bank)) →
-        Recovers kind name.now blocks (option_map (λ v. v.items) told.0)) }
-    ensures none { IfOk result (λ told. B.tells → open_of kind name.now (store_of (B.now bank)) ≡ None →
-        option_map (λ v. v.items) told.0 ≡ None) }
+    ensures recovered { IfOk result (λ told. Recovered B.Bank bank told.1 kind name.now (option_map (λ v. v.items) told.0)) }
     ensures back { IfOk result (λ told. ShowsStill B.Bank bank told.1) }
+    ensures not_recovered { IfErr result (λ back. NotRecovered B.Bank bank back.bank kind name.now back.cause) }
     ensures err { IfErr result (λ back. ShowsStill B.Bank bank back.bank) }
-    ensures still { IfOk result (λ told. Still B.faults B.stops bank told.1) }
-    ensures fault { IfErr result (λ back. RecoverCounted B.faults B.stops bank back.bank back.cause) }
-
-    // The bank is booted. Then only what the block holds is read, once.
-    ensures calls_ok { IfOk result (λ told. B.tells →
-        Asks B.tells_calls B.calls bank told.1 true (recover_calls kind name.now (B.now bank) (B.now told.1))) }
-    ensures calls_err { IfErr result (λ back. (back.cause ≢ RecoverFault.Memory) → B.tells →
-        Asks B.tells_calls B.calls bank back.bank false (recover_calls kind name.now (B.now bank) (B.now back.bank))) }
 {
     let mut store = match Store::make(alloc, bank) {
         Ok(store) => store,

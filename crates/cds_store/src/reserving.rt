@@ -13,8 +13,10 @@ ghost use Rattle.cds_layout.specs.Order.{close_calls, reserve_calls};
 ghost use Rattle.cds_store.specs.Calls.{Steady, CallCounted, ReserveCounted, HasFlags, IfBank, lacks_room, is_gate, is_old};
 ghost use Rattle.cds_store.specs.Moments.{ShowsIn, LeavesIn, MakeLeaves};
 ghost use Rattle.cds_store.specs.Slots.{open_slot, doubtful_slot, without_slot, room_in};
-ghost use Rattle.cds_store.specs.Sound.{slot_at, IsSound, IsNew};
+ghost use Rattle.cds_store.specs.Sound.{SoundOver, slot_at, IsSound, IsNew};
 ghost use Rattle.cds_store.specs.StoreBlocks.{StandsFor, kept, with_new, closing, broken_at};
+ghost use Rattle.cds_store.specs.BankSteps.{AsksFor, Alters};
+ghost use Rattle.cds_store.specs.Promises.{Reserves};
 
 use crate::fault::{BankFault, ReserveFault};
 use crate::gates::close;
@@ -30,22 +32,12 @@ fn close_old<B: Bank>(
     slots: &mut Vec<Option<Slot>>,
     old: Option<u8>,
 ) -> Result<(), BankFault>
-    requires sound { IsSound B.tells B.size B.now (kept slots.old.items bank.old) }
+    requires sound { SoundOver B.Bank slots.old.items bank.old }
     requires taken { IfSome old (λ n. IsSome (slot_at slots.old.items n)) }
-    ensures sound { IsSound B.tells B.size B.now (kept slots.new.items bank.new) }
-    ensures ok { OnOk result ((blocks : Blocks) → StandsFor B.tells B.now (kept slots.old.items bank.old) blocks →
-        StandsFor B.tells B.now (kept slots.new.items bank.new) (freed old blocks)) }
-    ensures err { IfErr result (λ fault. (blocks : Blocks) →
-        StandsFor B.tells B.now (kept slots.old.items bank.old) blocks →
-        StandsFor B.tells B.now (kept slots.new.items bank.new) (closing old blocks)) }
-    ensures moments { B.tells_moments → (blocks : Blocks) →
-        StandsFor B.tells B.now (kept slots.old.items bank.old) blocks →
-        LeavesOnly B.clock B.left_since bank.old bank.new
-        (λ image. ShowsIn blocks image ⊎ ShowsIn (freed old blocks) image ⊎ ShowsIn (closing old blocks) image) }
+    ensures alters { Alters B.Bank (kept slots.old.items bank.old) (kept slots.new.items bank.new) (freed old) (λ fault. closing old)
+        (λ blocks image. ShowsIn blocks image ⊎ ShowsIn (freed old blocks) image ⊎ ShowsIn (closing old blocks) image) result }
     ensures freed { OnOk result (slots.new.items ≡ without_slot old slots.old.items) }
-    ensures steady { Steady B.size B.faults B.stops bank.old bank.new }
-    ensures counted { CallCounted B.faults B.stops bank.old bank.new result }
-    ensures bank_calls { Asks B.tells_calls B.calls bank.old bank.new (is_ok result) (close_calls old) }
+    ensures bank_calls { AsksFor B.Bank bank.old bank.new (close_calls old) result }
     ensures flags { IfErr result (HasFlags true true) }
     ensures there { IfErr result (λ fault. IsSome old) }
 {
@@ -63,22 +55,13 @@ fn make_instead<B: Bank>(
     slot: u8,
     block: Block,
 ) -> Result<(), BankFault>
-    requires sound { IsSound B.tells B.size B.now (kept slots.old.items bank.old) }
+    requires sound { SoundOver B.Bank slots.old.items bank.old }
     requires taken { IfSome old (λ n. IsSome (slot_at slots.old.items n)) }
     requires new { IsNew slot (without_slot old slots.old.items) block }
-    ensures sound { IsSound B.tells B.size B.now (kept slots.new.items bank.new) }
-    ensures ok { OnOk result ((blocks : Blocks) → StandsFor B.tells B.now (kept slots.old.items bank.old) blocks →
-        StandsFor B.tells B.now (kept slots.new.items bank.new) (with_new false slot block (freed old blocks))) }
-    ensures err { IfErr result (λ fault. (blocks : Blocks) →
-        StandsFor B.tells B.now (kept slots.old.items bank.old) blocks →
-        StandsFor B.tells B.now (kept slots.new.items bank.new)
-        (broken_at (is_gate fault) (is_old fault) old slot block blocks)) }
-    ensures moments { B.tells_moments → (blocks : Blocks) →
-        StandsFor B.tells B.now (kept slots.old.items bank.old) blocks →
-        LeavesOnly B.clock B.left_since bank.old bank.new (MakeLeaves old slot block blocks) }
-    ensures steady { Steady B.size B.faults B.stops bank.old bank.new }
-    ensures counted { CallCounted B.faults B.stops bank.old bank.new result }
-    ensures bank_calls { Asks B.tells_calls B.calls bank.old bank.new (is_ok result) (reserve_calls old slot block) }
+    ensures alters { Alters B.Bank (kept slots.old.items bank.old) (kept slots.new.items bank.new)
+        (λ blocks. with_new false slot block (freed old blocks))
+        (λ fault. broken_at (is_gate fault) (is_old fault) old slot block) (MakeLeaves old slot block) result }
+    ensures bank_calls { AsksFor B.Bank bank.old bank.new (reserve_calls old slot block) result }
     ensures flags { IfErr result (λ fault. is_old fault ≡ true → (is_gate fault ≡ true) × IsSome old) }
 {
     close_old(bank, slots, old)?;
@@ -94,35 +77,13 @@ pub(crate) fn reserve<B: Bank>(
     name: &Name40,
     size: u32,
 ) -> Result<u8, ReserveFault>
-    requires sound { IsSound B.tells B.size B.now (kept slots.old.items bank.old) }
+    requires sound { SoundOver B.Bank slots.old.items bank.old }
     requires named { is_name name.now ≡ true }
     requires some { 1 ≤ size }
     requires within { size ≤ 16384 }
     requires none_open { open_slot kind name.now slots.old.items ≡ None }
-    ensures sound { IsSound B.tells B.size B.now (kept slots.new.items bank.new) }
-    ensures ok { OnOk result ((blocks : Blocks) → StandsFor B.tells B.now (kept slots.old.items bank.old) blocks →
-        StandsFor B.tells B.now (kept slots.new.items bank.new) (reserved kind name.now size blocks)) }
-    ensures slot { IfOk result (λ slot. (blocks : Blocks) →
-        StandsFor B.tells B.now (kept slots.old.items bank.old) blocks →
-        least_free (closed kind name.now blocks) ≡ Some slot) }
-    ensures full { (blocks : Blocks) → StandsFor B.tells B.now (kept slots.old.items bank.old) blocks →
-        lacks_room result ≡ not (has_room size (doubtful_of kind name.now blocks) blocks) }
-    ensures untouched { lacks_room result ≡ true → (bank.new ≡ bank.old) × (slots.new ≡ slots.old) }
-    ensures err { IfErr result (λ fault. IfBank fault (λ fault. (blocks : Blocks) →
-        StandsFor B.tells B.now (kept slots.old.items bank.old) blocks →
-        StandsFor B.tells B.now (kept slots.new.items bank.new)
-        (reserve_broken (is_gate fault) (is_old fault) kind name.now size blocks))) }
-    ensures flags { IfErr result (λ fault. IfBank fault (λ fault. is_old fault ≡ true →
-        (is_gate fault ≡ true) × IsSome (doubtful_slot kind name.now slots.old.items))) }
-    ensures moments { B.tells_moments → (blocks : Blocks) →
-        StandsFor B.tells B.now (kept slots.old.items bank.old) blocks →
-        LeavesOnly B.clock B.left_since bank.old bank.new (LeavesIn (reserve kind name.now size) blocks) }
-    ensures steady { Steady B.size B.faults B.stops bank.old bank.new }
-    ensures counted { ReserveCounted B.faults B.stops bank.old bank.new result }
-    ensures bank_calls { let old = doubtful_slot kind name.now slots.old.items in
-        ForSome (room_in size (without_slot old slots.old.items)) (λ room.
-        Asks B.tells_calls B.calls bank.old bank.new (is_ok result)
-        (reserve_calls old room.0 (record { kind = kind; offset = room.1; size = size; name = name.now }))) }
+    ensures sound { SoundOver B.Bank slots.new.items bank.new }
+    ensures reserves { Reserves B.Bank (kept slots.old.items bank.old) (kept slots.new.items bank.new) kind name.now size result }
 {
     let old = find_doubtful(slots, kind, name);
     let Some((slot, offset)) = room_for(slots, size, old) else {

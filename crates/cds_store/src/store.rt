@@ -17,8 +17,9 @@ ghost use Rattle.cds_store.specs.Boots.{BeginsAt, found_by};
 ghost use Rattle.cds_store.specs.Calls.{Steady, CallCounted, ReserveCounted, HasFlags, IfBank, lacks_room, is_gate, is_old};
 ghost use Rattle.cds_store.specs.Moments.{BootLeaves, LeavesIn, CopyTears};
 ghost use Rattle.cds_store.specs.Slots.{open_slot, doubtful_slot, without_slot, room_in, block_of, has_open};
-ghost use Rattle.cds_store.specs.Sound.{slot_at, IsOpenOf};
+ghost use Rattle.cds_store.specs.Sound.{IsRoom, slot_at, IsOpenOf};
 ghost use Rattle.cds_store.specs.StoreBlocks.{StandsFor, after_fault, held_at, ComesBack};
+ghost use Rattle.cds_store.specs.Promises.{Boots, Reserves, Copies, Restores, Deletes};
 
 use crate::boot::boot;
 use crate::fault::{BankFault, ReserveFault};
@@ -103,9 +104,7 @@ struct Room {
 
 impl Room {
     fn make(alloc: Global) -> Result<Room, Memory>
-        ensures slots { IfOk result (λ room. room.slots.items ≡ replicate 128 None) }
-        ensures front { IfOk result (λ room. length room.front.items ≡ directory_len) }
-        ensures place { IfOk result (λ room. length room.place.items ≡ 16392) }
+        ensures room { IfOk result (λ room. IsRoom (replicate 128 None) room.slots.items room.front.items room.place.items) }
     {
         Ok(Room {
             slots: free_slots(alloc)?,
@@ -169,22 +168,8 @@ impl<B: Bank> Store<B> {
     /// store as right after `make`, without slots: boot again.
     pub fn boot(&mut self, kind: ResetKind) -> Result<Slots, BankFault>
         ensures booted { self.new.booted ≡ is_ok result }
-        ensures ok { IfOk result (λ found. B.tells → (blocks : Blocks) → BeginsAt B.tells B.now self.old blocks →
-            StandsFor B.tells B.now self.new (booted kind found blocks)) }
-        ensures found { IfOk result (λ found. B.tells →
-            found ≡ found_by kind self.old.slots (store_of (B.now self.old.bank))) }
         ensures err { OnErr result (self.new.slots ≡ replicate 128 None) }
-
-        // The bank is left as a reset inside the call may leave it.
-        ensures left { B.tells → (blocks : Blocks) → BeginsAt B.tells B.now self.old blocks →
-            BootLeaves kind blocks (B.now self.new.bank) }
-        ensures moments { B.tells_moments → (blocks : Blocks) → BeginsAt B.tells B.now self.old blocks →
-            LeavesOnly B.clock B.left_since self.old.bank self.new.bank (BootLeaves kind blocks) }
-        ensures steady { Steady B.size B.faults B.stops self.old.bank self.new.bank }
-        ensures counted { CallCounted B.faults B.stops self.old.bank self.new.bank result }
-        ensures bank_calls { B.tells →
-            Asks B.tells_calls B.calls self.old.bank self.new.bank (is_ok result) (boot_calls kind (B.now self.old.bank)) }
-        ensures not_old { IfErr result (λ fault. is_old fault ≡ false) }
+        ensures boots { Boots B.Bank self.old self.new kind (boot_calls kind (B.now self.old.bank)) result }
     {
         self.booted = false;
         let ended = boot(
@@ -266,32 +251,7 @@ impl<B: Bank> Store<B> {
         requires some { 1 ≤ size }
         requires within { size ≤ 16384 }
         requires none_open { open_slot kind name.now self.old.slots ≡ None }
-        ensures booted { self.new.booted ≡ true }
-        ensures ok { OnOk result ((blocks : Blocks) → StandsFor B.tells B.now self.old blocks →
-            StandsFor B.tells B.now self.new (after (reserve kind name.now size) blocks)) }
-        ensures slot { IfOk result (λ slot. (blocks : Blocks) → StandsFor B.tells B.now self.old blocks →
-            least_free (closed kind name.now blocks) ≡ Some slot) }
-
-        // There is no room exactly if the definition has none, and then nothing was done.
-        ensures full { (blocks : Blocks) → StandsFor B.tells B.now self.old blocks →
-            lacks_room result ≡ not (has_room size (doubtful_of kind name.now blocks) blocks) }
-        ensures untouched { lacks_room result ≡ true → self.new ≡ self.old }
-        ensures err { IfErr result (λ fault. IfBank fault (λ fault. (blocks : Blocks) →
-            StandsFor B.tells B.now self.old blocks →
-            StandsFor B.tells B.now self.new (broken (is_gate fault) (is_old fault) (reserve kind name.now size) blocks))) }
-        ensures breaks { IfErr result (λ fault. IfBank fault (λ fault. (blocks : Blocks) →
-            StandsFor B.tells B.now self.old blocks →
-            CanBreak (is_gate fault) (is_old fault) (reserve kind name.now size) blocks)) }
-        ensures flags { IfErr result (λ fault. IfBank fault (λ fault. is_old fault ≡ true →
-            (is_gate fault ≡ true) × IsSome (doubtful_slot kind name.now self.old.slots))) }
-        ensures moments { B.tells_moments → (blocks : Blocks) → StandsFor B.tells B.now self.old blocks →
-            LeavesOnly B.clock B.left_since self.old.bank self.new.bank (LeavesIn (reserve kind name.now size) blocks) }
-        ensures steady { Steady B.size B.faults B.stops self.old.bank self.new.bank }
-        ensures counted { ReserveCounted B.faults B.stops self.old.bank self.new.bank result }
-        ensures bank_calls { let old = doubtful_slot kind name.now self.old.slots in
-            ForSome (room_in size (without_slot old self.old.slots)) (λ room.
-            Asks B.tells_calls B.calls self.old.bank self.new.bank (is_ok result)
-            (reserve_calls old room.0 (record { kind = kind; offset = room.1; size = size; name = name.now }))) }
+        ensures reserves { Reserves B.Bank self.old self.new kind name.now size result }
     {
         reserve(&mut self.bank, &mut self.slots, kind, name, size)
     }
@@ -302,24 +262,7 @@ impl<B: Bank> Store<B> {
     pub fn copy(&mut self, slot: u8, image: &Checked<'_>) -> Result<(), BankFault>
         requires booted { self.old.booted ≡ true }
         requires can { IsOpenOf (length image.now) (slot_at self.old.slots slot) }
-        ensures booted { self.new.booted ≡ true }
-        ensures slots { self.new.slots ≡ self.old.slots }
-        ensures ok { OnOk result ((blocks : Blocks) → StandsFor B.tells B.now self.old blocks →
-            StandsFor B.tells B.now self.new (after (copy slot image.now) blocks)) }
-        ensures err { IfErr result (λ fault. (blocks : Blocks) → StandsFor B.tells B.now self.old blocks →
-            StandsFor B.tells B.now self.new (broken (is_gate fault) (is_old fault) (copy slot image.now) blocks)) }
-        ensures moments { B.tells_moments → (blocks : Blocks) → StandsFor B.tells B.now self.old blocks →
-            LeavesOnly B.clock B.left_since self.old.bank self.new.bank (LeavesIn (copy slot image.now) blocks) }
-        ensures bytewise { B.tells_moments → ForSome (slot_at self.old.slots slot) (λ s.
-            LeavesOnly B.clock B.left_since self.old.bank self.new.bank
-            (CopyTears slot s.block (spelled s.block.size image.now) (B.now self.old.bank))) }
-        ensures steady { Steady B.size B.faults B.stops self.old.bank self.new.bank }
-        ensures counted { CallCounted B.faults B.stops self.old.bank self.new.bank result }
-        ensures bank_calls { B.tells → ForSome (slot_at self.old.slots slot) (λ s.
-            Asks B.tells_calls B.calls self.old.bank self.new.bank (is_ok result)
-            (copy_calls (B.now self.old.bank) slot s.block (spelled s.block.size image.now))) }
-        ensures breaks { IfErr result (λ fault. (blocks : Blocks) →
-            CanBreak (is_gate fault) (is_old fault) (copy slot image.now) blocks) }
+        ensures copies { Copies B.Bank self.old self.new slot image.now result }
     {
         copy(&mut self.bank, &self.slots, slot, image, &mut self.room)
     }
@@ -328,28 +271,7 @@ impl<B: Bank> Store<B> {
     pub fn restore(&mut self, slot: u8, into: &mut [u8]) -> Result<(), RestoreFault>
         requires booted { self.old.booted ≡ true }
         requires can { IsOpenOf (length into.old) (slot_at self.old.slots slot) }
-        ensures booted { self.new.booted ≡ true }
-        ensures slots { self.new.slots ≡ self.old.slots }
-        ensures image { OnOk result (B.tells → held_at slot (store_of (B.now self.old.bank)) ≡ Some into.new) }
-        ensures ok { OnOk result ((blocks : Blocks) → StandsFor B.tells B.now self.old blocks →
-            StandsFor B.tells B.now self.new (after (restore slot (Some into.new)) blocks)) }
-
-        // A block whose copies were all completed comes back as the last of them, or as none if it has had none.
-        ensures comes_back { B.tells → (blocks : Blocks) → StandsFor B.tells B.now self.old blocks →
-            ForSome (stored_at blocks slot) (λ b. b.trying ≡ [] → ComesBack result b.held into.new) }
-        ensures torn { IfErr result (λ fault. B.tells → ForSome (slot_at self.old.slots slot) (λ s.
-            TellsTorn (B.now self.old.bank) slot s.block fault)) }
-        ensures why { IfErr result (SaysWhy (length into.old)) }
-        ensures err { IfErr result (λ fault. (blocks : Blocks) → StandsFor B.tells B.now self.old blocks →
-            StandsFor B.tells B.now self.new (after_fault fault slot blocks)) }
-        ensures bytes { B.tells → B.now self.new.bank ≡ B.now self.old.bank }
-        ensures moments { B.tells_moments →
-            LeavesOnly B.clock B.left_since self.old.bank self.new.bank (λ image. image ≡ B.now self.old.bank) }
-        ensures steady { Steady B.size B.faults B.stops self.old.bank self.new.bank }
-        ensures counted { RestoreCounted B.faults B.stops self.old.bank self.new.bank result }
-        ensures bank_calls { B.tells → ForSome (slot_at self.old.slots slot) (λ s.
-            Asks B.tells_calls B.calls self.old.bank self.new.bank (was_read result)
-            (restore_calls (B.now self.old.bank) slot s.block)) }
+        ensures restores { Restores B.Bank self.old self.new slot (length into.old) into.new result }
     {
         restore(&mut self.bank, &self.slots, slot, into)
     }
@@ -358,22 +280,7 @@ impl<B: Bank> Store<B> {
     pub fn delete_block(&mut self, slot: u8) -> Result<(), BankFault>
         requires booted { self.old.booted ≡ true }
         requires taken { IsSome (slot_at self.old.slots slot) }
-        ensures booted { self.new.booted ≡ true }
-        ensures freed { OnOk result (self.new.slots ≡ slice_set self.old.slots slot None) }
-
-        // There is no other block of its kind and name, open or in doubt, so one may be reserved then.
-        ensures alone { OnOk result ((kind : BlockKind) (name : List ℕ) → open_slot kind name self.old.slots ≡ Some slot →
-            (open_slot kind name self.new.slots ≡ None) × (doubtful_slot kind name self.new.slots ≡ None)) }
-        ensures ok { OnOk result ((blocks : Blocks) → StandsFor B.tells B.now self.old blocks →
-            StandsFor B.tells B.now self.new (after (delete slot) blocks)) }
-        ensures err { IfErr result (λ fault. (blocks : Blocks) → StandsFor B.tells B.now self.old blocks →
-            StandsFor B.tells B.now self.new (broken (is_gate fault) (is_old fault) (delete slot) blocks)) }
-        ensures moments { B.tells_moments → (blocks : Blocks) → StandsFor B.tells B.now self.old blocks →
-            LeavesOnly B.clock B.left_since self.old.bank self.new.bank (LeavesIn (delete slot) blocks) }
-        ensures steady { Steady B.size B.faults B.stops self.old.bank self.new.bank }
-        ensures counted { CallCounted B.faults B.stops self.old.bank self.new.bank result }
-        ensures bank_calls { Asks B.tells_calls B.calls self.old.bank self.new.bank (is_ok result) (delete_calls slot) }
-        ensures flags { IfErr result (HasFlags true false) }
+        ensures deletes { Deletes B.Bank self.old self.new slot false result }
     {
         close(&mut self.bank, &mut self.slots, slot, false)
     }

@@ -7,8 +7,9 @@ ghost use Rattle.tbl_outside.specs.BankCalls.{Asks};
 ghost use Rattle.cds_layout.specs.Directory.{directory_len, is_live};
 ghost use Rattle.cds_layout.specs.Entries.{slot_count};
 ghost use Rattle.cds_layout.specs.Order.{is_stray, strays_to, delete_calls};
-ghost use Rattle.cds_store.specs.Boots.{IsFront, SameStore, Tidied};
+ghost use Rattle.cds_store.specs.Boots.{WasRead, IsFront, SameStore, Tidied};
 ghost use Rattle.cds_store.specs.Calls.{Steady, CallCounted, is_old};
+ghost use Rattle.cds_store.specs.BankSteps.{Keeps, Changes};
 
 use crate::fault::BankFault;
 use crate::writes::set_gate;
@@ -34,17 +35,10 @@ fn tidy_slot<B: Bank>(
     requires len { length front.now ≡ directory_len }
     requires within { slot < slot_count }
     requires room { bank_size ≤ B.size bank.old }
-    ensures done { OnOk result (B.tells → (old : List ℕ) → IsFront front.now directory.now old →
-        Tidied old (B.now bank.old) slot → Tidied old (B.now bank.new) (slot + 1)) }
-    ensures same { B.tells → (old : List ℕ) → IsFront front.now directory.now old →
-        Tidied old (B.now bank.old) slot → SameStore old (B.now bank.new) }
-    ensures moments { B.tells_moments → (old : List ℕ) → IsFront front.now directory.now old →
-        Tidied old (B.now bank.old) slot → LeavesOnly B.clock B.left_since bank.old bank.new (SameStore old) }
-    ensures steady { Steady B.size B.faults B.stops bank.old bank.new }
-    ensures counted { CallCounted B.faults B.stops bank.old bank.new result }
-    ensures bank_calls { Asks B.tells_calls B.calls bank.old bank.new (is_ok result)
-        (if is_stray front.now directory.now slot then delete_calls slot else []) }
-    ensures not_old { IfErr result (λ fault. is_old fault ≡ false) }
+    ensures keeps { Keeps B.Bank bank.old bank.new result }
+    ensures changes { (old : List ℕ) → (B.tells → IsFront front.now directory.now old) → (B.tells → Tidied old (B.now bank.old) slot) →
+        Changes B.Bank bank.old bank.new (λ image. Tidied old image (slot + 1)) (SameStore old)
+        (if is_stray front.now directory.now slot then delete_calls slot else []) result }
 {
     if is_stray(front, directory, slot) {
         set_gate(bank, slot, GATE_CLOSED, false)
@@ -59,18 +53,11 @@ pub(crate) fn tidy_live<B: Bank>(
     front: &[u8],
     directory: &Directory,
 ) -> Result<(), BankFault>
-    requires len { length front.now ≡ directory_len }
-    requires room { bank_size ≤ B.size bank.old }
-    requires read { B.tells → IsFront front.now directory.now (B.now bank.old) }
+    requires front { WasRead B.Bank bank.old front.now directory.now }
     requires live { B.tells → is_live (B.now bank.old) ≡ true }
-    ensures done { OnOk result (B.tells → Tidied (B.now bank.old) (B.now bank.new) slot_count) }
-    ensures same { B.tells → SameStore (B.now bank.old) (B.now bank.new) }
-    ensures moments { B.tells_moments →
-        LeavesOnly B.clock B.left_since bank.old bank.new (SameStore (B.now bank.old)) }
-    ensures steady { Steady B.size B.faults B.stops bank.old bank.new }
-    ensures counted { CallCounted B.faults B.stops bank.old bank.new result }
-    ensures bank_calls { Asks B.tells_calls B.calls bank.old bank.new (is_ok result) (strays_to slot_count front.now directory.now) }
-    ensures not_old { IfErr result (λ fault. is_old fault ≡ false) }
+    ensures keeps { Keeps B.Bank bank.old bank.new result }
+    ensures changes { Changes B.Bank bank.old bank.new (λ image. Tidied (B.now bank.old) image slot_count) (SameStore (B.now bank.old))
+        (strays_to slot_count front.now directory.now) result }
 {
     for slot in 0..SLOTS {
         tidy_slot(bank, front, directory, slot)?;

@@ -13,6 +13,7 @@ ghost use Rattle.cds_layout.specs.Turns.{byte_of};
 ghost use Rattle.cds_layout.specs.declared.turns.Place.TheVariants as place;
 ghost use Rattle.cds_store.specs.Calls.{Steady, CallCounted, HasFlags, is_gate, is_old};
 ghost use Rattle.cds_store.specs.Moments.{TearsBy, CopyTears, copied_bytes};
+ghost use Rattle.cds_store.specs.BankSteps.{Reads, Writes, CopiesBytes};
 
 use crate::fault::BankFault;
 use cds_layout::{
@@ -32,14 +33,7 @@ pub(crate) fn write<B: Bank>(
     old: bool,
 ) -> Result<(), BankFault>
     requires { at + length bytes.now ≤ B.size bank.old }
-    ensures done { OnOk result (B.tells → B.now bank.new ≡ patched (B.now bank.old) at bytes.now) }
-    ensures torn { B.tells → Torn at (length bytes.now) (B.now bank.old) (B.now bank.new) }
-    ensures moments { B.tells_moments →
-        LeavesOnly B.clock B.left_since bank.old bank.new (Torn at (length bytes.now) (B.now bank.old)) }
-    ensures steady { Steady B.size B.faults B.stops bank.old bank.new }
-    ensures counted { CallCounted B.faults B.stops bank.old bank.new result }
-    ensures bank_calls { Asks B.tells_calls B.calls bank.old bank.new (is_ok result) (write at bytes.now ∷ []) }
-    ensures flags { IfErr result (HasFlags gate old) }
+    ensures writes { Writes B.Bank bank.old bank.new at bytes.now (HasFlags gate old) result }
 {
     match bank.write_at(at, bytes) {
         Written::Done => Ok(()),
@@ -58,13 +52,7 @@ pub(crate) fn set_gate<B: Bank>(
     requires within { slot < slot_count }
     requires room { bank_size ≤ B.size bank.old }
     ensures done { OnOk result (B.tells → gate_at (B.now bank.new) slot ≡ gate) }
-    ensures torn { B.tells → Torn (gate_place slot) 1 (B.now bank.old) (B.now bank.new) }
-    ensures moments { B.tells_moments →
-        LeavesOnly B.clock B.left_since bank.old bank.new (Torn (gate_place slot) 1 (B.now bank.old)) }
-    ensures steady { Steady B.size B.faults B.stops bank.old bank.new }
-    ensures counted { CallCounted B.faults B.stops bank.old bank.new result }
-    ensures bank_calls { Asks B.tells_calls B.calls bank.old bank.new (is_ok result) (write (gate_place slot) (gate ∷ []) ∷ []) }
-    ensures flags { IfErr result (HasFlags true old) }
+    ensures writes { Writes B.Bank bank.old bank.new (gate_place slot) (gate ∷ []) (HasFlags true old) result }
 {
     write(bank, gate_place(slot), &[gate], true, old)
 }
@@ -77,13 +65,8 @@ pub(crate) fn write_entry<B: Bank>(bank: &mut B, slot: u8, block: &Block) -> Res
     requires room { bank_size ≤ B.size bank.old }
     ensures done { OnOk result (B.tells → block_in (told_at (B.now bank.new) slot) ≡ Some block.now) }
     ensures none { OnOk result (B.tells → turned_in (B.now bank.new) slot ≡ None) }
-    ensures torn { B.tells → Torn (tail_place slot) 63 (B.now bank.old) (B.now bank.new) }
-    ensures moments { B.tells_moments →
-        LeavesOnly B.clock B.left_since bank.old bank.new (Torn (tail_place slot) 63 (B.now bank.old)) }
-    ensures steady { Steady B.size B.faults B.stops bank.old bank.new }
-    ensures counted { CallCounted B.faults B.stops bank.old bank.new result }
-    ensures bank_calls { Asks B.tells_calls B.calls bank.old bank.new (is_ok result) (write (tail_place slot) (entry_tail block.now) ∷ []) }
-    ensures flags { IfErr result (HasFlags false false) }
+    ensures len { length (entry_tail block.now) ≡ 63 }
+    ensures writes { Writes B.Bank bank.old bank.new (tail_place slot) (entry_tail block.now) (HasFlags false false) result }
 {
     write(
         bank,
@@ -100,13 +83,7 @@ fn turns_of<B: Bank>(bank: &mut B, slot: u8) -> Result<Turns, BankFault>
     requires room { bank_size ≤ B.size bank.old }
     ensures first { IfOk result (λ turns. B.tells → turns.first ≡ turn_in (B.now bank.old) slot place.First) }
     ensures second { IfOk result (λ turns. B.tells → turns.second ≡ turn_in (B.now bank.old) slot place.Second) }
-    ensures kept { B.tells → B.now bank.new ≡ B.now bank.old }
-    ensures moments { B.tells_moments →
-        LeavesOnly B.clock B.left_since bank.old bank.new (λ image. image ≡ B.now bank.old) }
-    ensures steady { Steady B.size B.faults B.stops bank.old bank.new }
-    ensures counted { CallCounted B.faults B.stops bank.old bank.new result }
-    ensures bank_calls { Asks B.tells_calls B.calls bank.old bank.new (is_ok result) (turn_calls slot) }
-    ensures flags { IfErr result (HasFlags false false) }
+    ensures reads { Reads B.Bank bank.old bank.new (turn_calls slot) result }
 {
     match read_turns(bank, slot) {
         Ok(turns) => Ok(turns),
@@ -121,14 +98,7 @@ fn turns_of<B: Bank>(bank: &mut B, slot: u8) -> Result<Turns, BankFault>
 fn write_turn<B: Bank>(bank: &mut B, slot: u8, place: Place, turn: Turn) -> Result<(), BankFault>
     requires within { slot < slot_count }
     requires room { bank_size ≤ B.size bank.old }
-    ensures done { OnOk result (B.tells → B.now bank.new ≡ patched (B.now bank.old) (turn_place slot place) (byte_of turn ∷ [])) }
-    ensures torn { B.tells → Torn (turn_place slot place) 1 (B.now bank.old) (B.now bank.new) }
-    ensures moments { B.tells_moments →
-        LeavesOnly B.clock B.left_since bank.old bank.new (Torn (turn_place slot place) 1 (B.now bank.old)) }
-    ensures steady { Steady B.size B.faults B.stops bank.old bank.new }
-    ensures counted { CallCounted B.faults B.stops bank.old bank.new result }
-    ensures bank_calls { Asks B.tells_calls B.calls bank.old bank.new (is_ok result) (write (turn_place slot place) (byte_of turn ∷ []) ∷ []) }
-    ensures flags { IfErr result (HasFlags true false) }
+    ensures writes { Writes B.Bank bank.old bank.new (turn_place slot place) (byte_of turn ∷ []) (HasFlags true false) result }
 {
     write(
         bank,
@@ -149,14 +119,7 @@ fn write_place<B: Bank>(
     requires right { is_right block.now ≡ true }
     requires size { length place_bytes.now ≡ head_len + block.now.size }
     requires room { bank_size ≤ B.size bank.old }
-    ensures done { OnOk result (B.tells → B.now bank.new ≡ patched (B.now bank.old) (place_at block.now place) place_bytes.now) }
-    ensures torn { B.tells → Torn (place_at block.now place) (head_len + block.now.size) (B.now bank.old) (B.now bank.new) }
-    ensures moments { B.tells_moments →
-        LeavesOnly B.clock B.left_since bank.old bank.new (Torn (place_at block.now place) (head_len + block.now.size) (B.now bank.old)) }
-    ensures steady { Steady B.size B.faults B.stops bank.old bank.new }
-    ensures counted { CallCounted B.faults B.stops bank.old bank.new result }
-    ensures bank_calls { Asks B.tells_calls B.calls bank.old bank.new (is_ok result) (write (place_at block.now place) place_bytes.now ∷ []) }
-    ensures flags { IfErr result (HasFlags false false) }
+    ensures writes { Writes B.Bank bank.old bank.new (place_at block.now place) place_bytes.now (HasFlags false false) result }
 {
     write(bank, place_offset(block, place), place_bytes, false, false)
 }
@@ -173,15 +136,7 @@ fn write_spelled<B: Bank>(
     requires right { is_right block.now ≡ true }
     requires size { length place_bytes.now ≡ head_len + block.now.size }
     requires room { bank_size ≤ B.size bank.old }
-    ensures done { OnOk result (B.tells → B.now bank.new ≡ copied_bytes slot block.now place_bytes.now (B.now bank.old)) }
-    ensures err { IfErr result (λ fault. B.tells → TearsBy (is_gate fault) slot block.now place_bytes.now (B.now bank.old) (B.now bank.new)) }
-    ensures moments { B.tells_moments →
-        LeavesOnly B.clock B.left_since bank.old bank.new (CopyTears slot block.now place_bytes.now (B.now bank.old)) }
-    ensures steady { Steady B.size B.faults B.stops bank.old bank.new }
-    ensures counted { CallCounted B.faults B.stops bank.old bank.new result }
-    ensures bank_calls { B.tells →
-        Asks B.tells_calls B.calls bank.old bank.new (is_ok result) (copy_calls (B.now bank.old) slot block.now place_bytes.now) }
-    ensures flags { IfErr result (λ fault. is_old fault ≡ false) }
+    ensures copies { CopiesBytes B.Bank bank.old bank.new slot block.now place_bytes.now result }
 {
     let turns = turns_of(bank, slot)?;
     let place = turns.hidden();
@@ -206,15 +161,7 @@ pub(crate) fn write_image<B: Bank>(
     requires bank { bank_size ≤ B.size bank.old }
     requires room { length room.old ≡ 16392 }
     ensures check { check16 image.now < 2 ^ 16 }
-    ensures done { OnOk result (B.tells → B.now bank.new ≡ copied_bytes slot block.now (spelled block.now.size image.now) (B.now bank.old)) }
-    ensures err { IfErr result (λ fault. B.tells → TearsBy (is_gate fault) slot block.now (spelled block.now.size image.now) (B.now bank.old) (B.now bank.new)) }
-    ensures moments { B.tells_moments →
-        LeavesOnly B.clock B.left_since bank.old bank.new (CopyTears slot block.now (spelled block.now.size image.now) (B.now bank.old)) }
-    ensures steady { Steady B.size B.faults B.stops bank.old bank.new }
-    ensures counted { CallCounted B.faults B.stops bank.old bank.new result }
-    ensures bank_calls { B.tells →
-        Asks B.tells_calls B.calls bank.old bank.new (is_ok result) (copy_calls (B.now bank.old) slot block.now (spelled block.now.size image.now)) }
-    ensures flags { IfErr result (λ fault. is_old fault ≡ false) }
+    ensures copies { CopiesBytes B.Bank bank.old bank.new slot block.now (spelled block.now.size image.now) result }
 {
     let place_bytes = &mut room[..HEAD_LENGTH as usize + image.bytes().len()];
     spell(place_bytes, image);

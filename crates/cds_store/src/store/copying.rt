@@ -3,6 +3,7 @@
 ghost use Rattle.std.specs.Prelude.{◌≡◌, ◌≤◌, length, IfOk};
 ghost use Rattle.tbl_kinds.specs.Places.{bank_size};
 ghost use Rattle.cds_layout.specs.Directory.{directory_len};
+ghost use Rattle.cds_store.specs.Sound.{IsRoom};
 
 use super::{Room, Store, front_bytes, place_bytes};
 use crate::lookups::copy_of;
@@ -38,9 +39,7 @@ fn copy_slots(alloc: Global, slots: &[Option<Slot>]) -> Result<Vec<Option<Slot>>
 
 /// What a store with these slots takes from memory.
 fn room_with(alloc: Global, slots: &[Option<Slot>]) -> Result<Room, Memory>
-    ensures slots { IfOk result (λ room. room.slots.items ≡ slots.now) }
-    ensures front { IfOk result (λ room. length room.front.items ≡ directory_len) }
-    ensures place { IfOk result (λ room. length room.place.items ≡ 16392) }
+    ensures room { IfOk result (λ room. IsRoom slots.now room.slots.items room.front.items room.place.items) }
 {
     Ok(Room {
         slots: copy_slots(alloc, slots)?,

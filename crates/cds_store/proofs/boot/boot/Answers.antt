@@ -1,4 +1,4 @@
-use Rattle.std.proofs.Common.{List, ℕ, [], ◌∷◌, subst, is_ok}
+use Rattle.std.proofs.Common.{rules, List, ℕ, [], ◌∷◌, subst, is_ok}
 use Rattle.std.proofs.lemmas.Result.{IfOk-weaker}
 use Rattle.tbl_kinds.specs.Blocks.{Store as Blocks}
 use Rattle.tbl_kinds.specs.StoreSteps.{booted}
@@ -12,41 +12,42 @@ use Rattle.cds_store.specs.StoreBlocks.{StandsFor, kept}
 use Rattle.cds_store.proofs.Settled.{begins_again, read_leaves}
 use Rattle.cds_store.proofs.boot.boot.Goals as goal
 
-pub returns-in_err-read_front-clause-left : goal.returns-in_err-read_front-clause-left
-returns-in_err-read_front-clause-left g c told blocks begins =
+pub returns-in_err-read_front-clause-boots : goal.returns-in_err-read_front-clause-boots
+returns-in_err-read_front-clause-boots g c =
     let b = g.B.Bank in
-    read_leaves b.tells b.now c.args.slots.now.items c.args.bank.now c.args.kind blocks told begins (b.now c.read_front.new.bank) (c.read_front.ensures.kept told)
+    record {
+      ok = search rules;
+      found = search rules;
+      left = λ told blocks begins. read_leaves b.tells b.now c.args.slots.now.items c.args.bank.now c.args.kind blocks told begins (b.now c.read_front.new.bank) (c.read_front.ensures.reads.kept told);
+      moments = λ told blocks begins. leaves_among (c.read_front.ensures.reads.moments told) (read_leaves b.tells b.now c.args.slots.now.items c.args.bank.now c.args.kind blocks (g.met.B.Bank.tells_both told) begins);
+      steady = search rules;
+      counted = search rules;
+      bank_calls = search rules;
+      not_old = search rules;
+    }
 
-pub returns-in_err-read_front-clause-moments : goal.returns-in_err-read_front-clause-moments
-returns-in_err-read_front-clause-moments g c told blocks begins =
+pub returns-clause-boots : goal.returns-clause-boots
+returns-clause-boots g c =
     let b = g.B.Bank in
-    leaves_among (c.read_front.ensures.moments told) (read_leaves b.tells b.now c.args.slots.now.items c.args.bank.now c.args.kind blocks (g.met.B.Bank.tells_both told) begins)
-
-pub returns-clause-ok : goal.returns-clause-ok
-returns-clause-ok g c =
-    let b = g.B.Bank in
-    IfOk-weaker c.boot_as.result
-    (λ found. b.tells → (blocks : Blocks) → BeginsAt b.tells b.now (kept c.args.slots.now.items c.read_front.new.bank) blocks → StandsFor b.tells b.now (kept c.boot_as.new.slots.items c.boot_as.new.bank) (booted c.args.kind found blocks)) _
-    (λ found stands told blocks begins. stands told blocks (begins_again b.tells b.now c.args.slots.now.items c.args.bank.now c.read_front.new.bank blocks c.read_front.ensures.kept begins))
-    c.boot_as.ensures.ok
-
-pub returns-clause-left : goal.returns-clause-left
-returns-clause-left g c told blocks begins =
-    let b = g.B.Bank in
-    c.boot_as.ensures.left told blocks (begins_again b.tells b.now c.args.slots.now.items c.args.bank.now c.read_front.new.bank blocks c.read_front.ensures.kept begins)
-
-pub returns-clause-moments : goal.returns-clause-moments
-returns-clause-moments g c told blocks begins =
-    let b = g.B.Bank in
-    goes_on
-    (leaves_among (c.read_front.ensures.moments told) (read_leaves b.tells b.now c.args.slots.now.items c.args.bank.now c.args.kind blocks (g.met.B.Bank.tells_both told) begins))
-    (c.boot_as.ensures.moments told blocks (begins_again b.tells b.now c.args.slots.now.items c.args.bank.now c.read_front.new.bank blocks c.read_front.ensures.kept begins))
-    (λ image leaves. leaves)
-
-pub returns-clause-bank_calls : goal.returns-clause-bank_calls
-returns-clause-bank_calls g c told =
-    let b = g.B.Bank in
-    asks_then b.tells_calls b.calls c.args.bank.now c.read_front.new.bank c.boot_as.new.bank (is_ok c.boot_as.result) (read 0 directory_len ∷ []) (boot_writes c.args.kind (b.now c.args.bank.now))
-    c.in_ok-read_front.ensures.bank_calls
-    (subst (λ (l : List ℕ). Asks b.tells_calls b.calls c.read_front.new.bank c.boot_as.new.bank (is_ok c.boot_as.result) (boot_writes c.args.kind l))
-    (c.read_front.ensures.kept told) (c.boot_as.ensures.bank_calls (told)))
+    record {
+      ok =
+          IfOk-weaker c.boot_as.result
+          (λ found. b.tells → (blocks : Blocks) → BeginsAt b.tells b.now (kept c.args.slots.now.items c.read_front.new.bank) blocks → StandsFor b.tells b.now (kept c.boot_as.new.slots.items c.boot_as.new.bank) (booted c.args.kind found blocks)) _
+          (λ found stands told blocks begins. stands told blocks (begins_again b.tells b.now c.args.slots.now.items c.args.bank.now c.read_front.new.bank blocks c.read_front.ensures.reads.kept begins))
+          c.boot_as.ensures.boots.ok;
+      found = search rules;
+      left = λ told blocks begins. c.boot_as.ensures.boots.left told blocks (begins_again b.tells b.now c.args.slots.now.items c.args.bank.now c.read_front.new.bank blocks c.read_front.ensures.reads.kept begins);
+      moments = λ told blocks begins.
+          goes_on
+          (leaves_among (c.read_front.ensures.reads.moments told) (read_leaves b.tells b.now c.args.slots.now.items c.args.bank.now c.args.kind blocks (g.met.B.Bank.tells_both told) begins))
+          (c.boot_as.ensures.boots.moments told blocks (begins_again b.tells b.now c.args.slots.now.items c.args.bank.now c.read_front.new.bank blocks c.read_front.ensures.reads.kept begins))
+          (λ image leaves. leaves);
+      steady = search rules;
+      counted = search rules;
+      bank_calls = λ told.
+          asks_then b.tells_calls b.calls c.args.bank.now c.read_front.new.bank c.boot_as.new.bank (is_ok c.boot_as.result) (read 0 directory_len ∷ []) (boot_writes c.args.kind (b.now c.args.bank.now))
+          c.in_ok-read_front.ensures.reads.bank_calls
+          (subst (λ (l : List ℕ). Asks b.tells_calls b.calls c.read_front.new.bank c.boot_as.new.bank (is_ok c.boot_as.result) (boot_writes c.args.kind l))
+          (c.read_front.ensures.reads.kept told) (c.boot_as.ensures.boots.bank_calls (told)));
+      not_old = search rules;
+    }

@@ -12,10 +12,10 @@ abbrev pub invariant-loop-slot : goal.invariant-loop-slot
 invariant-loop-slot g l =
     let b = g.B.Bank in
     record {
-      carried : b.tells → (old : List ℕ) → l.directory ≡ directory_of old → Carried old (b.now l.fn.bank) 0 → Carried old (b.now l.bank) l.slot;
+      carried : (old : List ℕ) → (b.tells → l.directory ≡ directory_of old) → (b.tells → Carried old (b.now l.fn.bank) 0) → b.tells → Carried old (b.now l.bank) l.slot;
       buffer : length l.room ≡ 16392;
       steady : Steady b.size b.faults b.stops l.fn.bank l.bank;
       still : Still b.faults b.stops l.fn.bank l.bank;
-      bank_calls : b.tells → (old : List ℕ) → l.directory ≡ directory_of old → Carried old (b.now l.fn.bank) 0 → Asks b.tells_calls b.calls l.fn.bank l.bank true (carried_to l.slot old (directory_of old));
-      moments : b.tells_moments → (old : List ℕ) → l.directory ≡ directory_of old → Carried old (b.now l.fn.bank) 0 → LeavesOnly b.clock b.left_since l.fn.bank l.bank (SameStore old);
+      bank_calls : (old : List ℕ) → (b.tells → l.directory ≡ directory_of old) → (b.tells → Carried old (b.now l.fn.bank) 0) → b.tells → Asks b.tells_calls b.calls l.fn.bank l.bank true (carried_to l.slot old (directory_of old));
+      moments : (old : List ℕ) → (b.tells → l.directory ≡ directory_of old) → (b.tells → Carried old (b.now l.fn.bank) 0) → b.tells_moments → LeavesOnly b.clock b.left_since l.fn.bank l.bank (SameStore old);
     }

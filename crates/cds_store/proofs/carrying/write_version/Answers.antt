@@ -1,19 +1,21 @@
-use Rattle.std.proofs.Common.{arith}
+use Rattle.std.proofs.Common.{rules, arith}
 use Rattle.std.proofs.lemmas.Result.{on_ok_weaker}
 use Rattle.tbl_outside.proofs.Moments.{leaves_among}
 use Rattle.cds_store.proofs.CarriedOver.{version_torn, version_tidy}
 use Rattle.cds_store.proofs.carrying.write_version.Goals as goal
 
-pub returns-clause-done : goal.returns-clause-done
-returns-clause-done g c =
+pub returns-clause-changes : goal.returns-clause-changes
+returns-clause-changes g c old carried =
     let b = g.B.Bank in
-    on_ok_weaker c.write.result
-    (λ done told old carried.
-    version_tidy old (b.now c.args.bank.now) (b.now c.write.new.bank) carried (c.write.ensures.torn told) (omega (arith, c.requires.room, g.met.B.Bank.whole c.args.bank.now told)) (done told))
-    c.write.ensures.done
-
-pub returns-clause-same : goal.returns-clause-same
-returns-clause-same g c told old carried = version_torn old (g.B.Bank.now c.args.bank.now) (g.B.Bank.now c.write.new.bank) carried (c.write.ensures.torn told)
-
-pub returns-clause-moments : goal.returns-clause-moments
-returns-clause-moments g c m old carried = leaves_among (c.write.ensures.moments m) (λ image torn. version_torn old (g.B.Bank.now c.args.bank.now) image carried torn)
+    let now = b.now c.args.bank.now in
+    let new = b.now c.write.new.bank in
+    let writes = c.write.ensures.writes in
+    record {
+      done =
+          on_ok_weaker c.write.result
+          (λ done told. version_tidy old now new (carried told) (writes.torn told) (omega (arith, c.requires.room, g.met.B.Bank.whole c.args.bank.now told)) (done told))
+          writes.done;
+      left = λ told. version_torn old now new (carried told) (writes.torn told);
+      moments = λ m. leaves_among (writes.moments m) (λ image torn. version_torn old now image (carried (g.met.B.Bank.tells_both m)) torn);
+      bank_calls = search rules;
+    }

@@ -1,4 +1,4 @@
-use Rattle.std.proofs.Common.{◌≤◌, Some, length, refl, sym, subst, ◌∙◌, arith}
+use Rattle.std.proofs.Common.{rules, ◌≤◌, Some, length, refl, sym, subst, ◌∙◌, arith}
 use Rattle.std.proofs.lemmas.Result.{on_ok_weaker, IfErr-weaker}
 use Rattle.tbl_kinds.specs.Places.{bank_size}
 use Rattle.cds_layout.specs.Restores.{TellsTorn, was_read}
@@ -25,44 +25,28 @@ read_block-requires-clause-right g c =
 pub read_block-requires-clause-version : goal.read_block-requires-clause-version
 read_block-requires-clause-version g c told = (c.requires.sound.matches refl told).version
 
-pub returns-clause-image : goal.returns-clause-image
-returns-clause-image g c =
+pub returns-clause-restores : goal.returns-clause-restores
+returns-clause-restores g c =
     let b = g.B.Bank in
-    let slots = c.args.slots.now in
-    let taken = read_there (length c.args.into.now) slots c.args.slot c.index-slots-slot.result c.in-Some.taken c.requires.can c.index-slots-slot.is c.in-Some.is in
-    let parts = open_parts (length c.args.into.now) slots c.args.slot c.in-Some.taken c.requires.can taken in
-    on_ok_weaker c.read_block.result (λ whole told. shown_held b.tells b.size b.now g.met.B.Bank.whole slots c.args.bank.now c.requires.sound c.args.slot c.in-Some.taken taken told parts.0 ∙ whole told) c.read_block.ensures.whole
-
-pub returns-clause-ok : goal.returns-clause-ok
-returns-clause-ok g c =
-    let b = g.B.Bank in
-    let slots = c.args.slots.now in
-    let taken = read_there (length c.args.into.now) slots c.args.slot c.index-slots-slot.result c.in-Some.taken c.requires.can c.index-slots-slot.is c.in-Some.is in
-    let parts = open_parts (length c.args.into.now) slots c.args.slot c.in-Some.taken c.requires.can taken in
+    let taken = read_there (length c.args.into.now) c.args.slots.now c.args.slot c.index-slots-slot.result c.in-Some.taken c.requires.can c.index-slots-slot.is c.in-Some.is in
+    let parts = open_parts (length c.args.into.now) c.args.slots.now c.args.slot c.in-Some.taken c.requires.can taken in
     let room : bank_size ≤ b.size c.read_block.new.bank = omega (arith, c.requires.sound.room, c.read_block.ensures.size) in
-    on_ok_weaker c.read_block.result (λ whole. restored_for b.tells b.size b.now g.met.B.Bank.whole slots c.args.bank.now c.requires.sound c.args.slot c.in-Some.taken taken c.read_block.new.bank room c.read_block.ensures.kept (Some c.read_block.new.into) whole) c.read_block.ensures.whole
-
-pub returns-clause-err : goal.returns-clause-err
-returns-clause-err g c =
-    let b = g.B.Bank in
-    let slots = c.args.slots.now in
-    let taken = read_there (length c.args.into.now) slots c.args.slot c.index-slots-slot.result c.in-Some.taken c.requires.can c.index-slots-slot.is c.in-Some.is in
-    let parts = open_parts (length c.args.into.now) slots c.args.slot c.in-Some.taken c.requires.can taken in
-    let room : bank_size ≤ b.size c.read_block.new.bank = omega (arith, c.requires.sound.room, c.read_block.ensures.size) in
-    IfErr-weaker c.read_block.result (λ fault. b.tells → TellsTorn (b.now c.args.bank.now) c.args.slot c.in-Some.taken.block fault) _
-    (λ fault torn. fault_for b.tells b.size b.now g.met.B.Bank.whole slots c.args.bank.now c.requires.sound c.args.slot c.in-Some.taken taken c.read_block.new.bank room c.read_block.ensures.kept fault torn) c.read_block.ensures.torn
-
-pub returns-clause-comes_back : goal.returns-clause-comes_back
-returns-clause-comes_back g c =
-    let b = g.B.Bank in
-    let slots = c.args.slots.now in
-    let taken = read_there (length c.args.into.now) slots c.args.slot c.index-slots-slot.result c.in-Some.taken c.requires.can c.index-slots-slot.is c.in-Some.is in
-    comes_back b.tells b.now slots c.args.bank.now c.args.slot c.in-Some.taken taken c.read_block.new.into c.read_block.result c.read_block.ensures.whole c.read_block.ensures.torn
-
-pub returns-clause-bank_calls : goal.returns-clause-bank_calls
-returns-clause-bank_calls g c told s there =
-    let b = g.B.Bank in
-    let slots = c.args.slots.now in
-    let taken = read_there (length c.args.into.now) slots c.args.slot c.index-slots-slot.result c.in-Some.taken c.requires.can c.index-slots-slot.is c.in-Some.is in
-    subst (λ (t : Slot). Asks b.tells_calls b.calls c.args.bank.now c.read_block.new.bank (was_read c.read_block.result) (restore_calls (b.now c.args.bank.now) c.args.slot t.block))
-    (same_Some c.in-Some.taken s (sym taken ∙ there)) (c.read_block.ensures.bank_calls told)
+    record {
+      booted = search rules;
+      slots = search rules;
+      image = on_ok_weaker c.read_block.result (λ whole told. shown_held b.tells b.size b.now g.met.B.Bank.whole c.args.slots.now c.args.bank.now c.requires.sound c.args.slot c.in-Some.taken taken told parts.0 ∙ whole told) c.read_block.ensures.whole;
+      ok = on_ok_weaker c.read_block.result (λ whole. restored_for b.tells b.size b.now g.met.B.Bank.whole c.args.slots.now c.args.bank.now c.requires.sound c.args.slot c.in-Some.taken taken c.read_block.new.bank room c.read_block.ensures.kept (Some c.read_block.new.into) whole) c.read_block.ensures.whole;
+      comes_back = comes_back b.tells b.now c.args.slots.now c.args.bank.now c.args.slot c.in-Some.taken taken c.read_block.new.into c.read_block.result c.read_block.ensures.whole c.read_block.ensures.torn;
+      torn = search rules;
+      why = search rules;
+      err =
+          IfErr-weaker c.read_block.result (λ fault. b.tells → TellsTorn (b.now c.args.bank.now) c.args.slot c.in-Some.taken.block fault) _
+          (λ fault torn. fault_for b.tells b.size b.now g.met.B.Bank.whole c.args.slots.now c.args.bank.now c.requires.sound c.args.slot c.in-Some.taken taken c.read_block.new.bank room c.read_block.ensures.kept fault torn) c.read_block.ensures.torn;
+      bytes = search rules;
+      moments = search rules;
+      steady = search rules;
+      counted = search rules;
+      bank_calls = λ told s there.
+          subst (λ (t : Slot). Asks b.tells_calls b.calls c.args.bank.now c.read_block.new.bank (was_read c.read_block.result) (restore_calls (b.now c.args.bank.now) c.args.slot t.block))
+          (same_Some c.in-Some.taken s (sym taken ∙ there)) (c.read_block.ensures.bank_calls told);
+    }

@@ -1,7 +1,7 @@
-use Rattle.std.proofs.Common.{◌≡◌, ℕ, List, Option, Some, None, false, not, ap, sym, ◌∙◌, subst}
+use Rattle.std.proofs.Common.{rules, ◌≡◌, ℕ, List, Option, Some, None, false, not, true, IsSome, ap, sym, ◌∙◌, subst}
 use Rattle.tbl_kinds.specs.Blocks.{Store as Blocks}
 use Rattle.tbl_kinds.specs.StoreCalls.{reserve}
-use Rattle.tbl_kinds.specs.StoreSteps.{freed, doubtful_of, has_room}
+use Rattle.tbl_kinds.specs.StoreSteps.{freed, has_room}
 use Rattle.tbl_kinds.specs.Free.{least_free}
 use Rattle.tbl_outside.proofs.Moments.{leaves_among}
 use Rattle.cds_store.specs.Calls.{is_gate, is_old}
@@ -13,14 +13,29 @@ use Rattle.cds_store.specs.declared.slot.Slot.{Slot}
 use Rattle.cds_store.proofs.Reservations.{doubtful_same, no_room, room_there, has_that_room, reserved_is, broken_is, make_leaves, new_is, old_taken}
 use Rattle.cds_store.proofs.reserving.reserve.Goals as goal
 
-pub returns-in_default-clause-full : goal.returns-in_default-clause-full
-returns-in_default-clause-full g c blocks stands =
+pub returns-in_default-clause-reserves : goal.returns-in_default-clause-reserves
+returns-in_default-clause-reserves g c =
+    let b = g.B.Bank in
     let slots = c.args.slots.now.items in
-    let old : c.find_doubtful-old.result ≡ doubtful_of c.args.kind c.args.name.now blocks =
-    c.find_doubtful-old.ensures.slot ∙ ap (doubtful_slot c.args.kind c.args.name.now) c.deref.ensures.value ∙ doubtful_same c.args.kind c.args.name.now slots blocks stands.slots in
-    let room : room_in c.args.size (without_slot c.find_doubtful-old.result slots) ≡ None =
-    ap (λ (l : List (Option Slot)). room_in c.args.size (without_slot c.find_doubtful-old.result l)) (sym c.deref-2.ensures.value) ∙ sym c.room_for.ensures ∙ c.in_default.is in
-    ap not (sym (ap (λ o. has_room c.args.size o blocks) (sym old) ∙ no_room c.find_doubtful-old.result c.args.size slots blocks stands.slots room))
+    let found = c.find_doubtful-old.result in
+    let is : found ≡ doubtful_slot c.args.kind c.args.name.now slots = c.find_doubtful-old.ensures.slot ∙ ap (doubtful_slot c.args.kind c.args.name.now) c.deref.ensures.value in
+    let old = λ (blocks : Blocks) (stands : StandsFor b.tells b.now (kept slots c.args.bank.now) blocks). is ∙ doubtful_same c.args.kind c.args.name.now slots blocks stands.slots in
+    let room : room_in c.args.size (without_slot found slots) ≡ None =
+    ap (λ (l : List (Option Slot)). room_in c.args.size (without_slot found l)) (sym c.deref-2.ensures.value) ∙ sym c.room_for.ensures ∙ c.in_default.is in
+    record {
+      booted = search rules;
+      ok = search rules;
+      slot = search rules;
+      full = λ blocks stands. ap not (sym (ap (λ o. has_room c.args.size o blocks) (sym (old blocks stands)) ∙ no_room found c.args.size slots blocks stands.slots room));
+      untouched = search rules;
+      err = search rules;
+      breaks = search rules;
+      flags = search rules;
+      moments = search rules;
+      steady = search rules;
+      counted = search rules;
+      bank_calls = search rules;
+    }
 
 pub make_instead-requires-clause-taken : goal.make_instead-requires-clause-taken
 make_instead-requires-clause-taken g c =
@@ -36,82 +51,69 @@ make_instead-requires-clause-new g c =
     (c.find_doubtful-old.ensures.slot ∙ ap (doubtful_slot c.args.kind c.args.name.now) c.deref.ensures.value)
     c.requires.named c.requires.some c.requires.within room)
 
-pub returns-in-Ok-clause-ok : goal.returns-in-Ok-clause-ok
-returns-in-Ok-clause-ok g c blocks stands =
+pub returns-in-Ok-clause-reserves : goal.returns-in-Ok-clause-reserves
+returns-in-Ok-clause-reserves g c =
     let b = g.B.Bank in
     let slots = c.args.slots.now.items in
-    let old : c.find_doubtful-old.result ≡ doubtful_of c.args.kind c.args.name.now blocks =
-    c.find_doubtful-old.ensures.slot ∙ ap (doubtful_slot c.args.kind c.args.name.now) c.deref.ensures.value ∙ doubtful_same c.args.kind c.args.name.now slots blocks stands.slots in
-    let room : room_in c.args.size (without_slot c.find_doubtful-old.result slots) ≡ Some (c.in-Some.slot, c.in-Some.offset) =
-    ap (λ (l : List (Option Slot)). room_in c.args.size (without_slot c.find_doubtful-old.result l)) (sym c.deref-2.ensures.value) ∙ sym c.room_for.ensures ∙ c.in-Some.is in
-    let there = room_there c.find_doubtful-old.result c.args.size c.in-Some.slot c.in-Some.offset slots blocks stands.slots room in
-    subst (λ (l : Blocks). StandsFor b.tells b.now (kept c.make_instead.new.slots.items c.make_instead.new.bank) l)
-    (ap (λ (name : List ℕ). with_new false c.in-Some.slot (record { kind = c.args.kind; offset = c.in-Some.offset; size = c.args.size; name = name }) (freed c.find_doubtful-old.result blocks)) c.copy.ensures
-    ∙ reserved_is c.args.kind c.args.name.now c.args.size c.in-Some.slot c.in-Some.offset c.find_doubtful-old.result blocks old there)
-    (c.in-Ok.ensures.ok blocks stands)
+    let found = c.find_doubtful-old.result in
+    let is : found ≡ doubtful_slot c.args.kind c.args.name.now slots = c.find_doubtful-old.ensures.slot ∙ ap (doubtful_slot c.args.kind c.args.name.now) c.deref.ensures.value in
+    let old = λ (blocks : Blocks) (stands : StandsFor b.tells b.now (kept slots c.args.bank.now) blocks). is ∙ doubtful_same c.args.kind c.args.name.now slots blocks stands.slots in
+    let room : room_in c.args.size (without_slot found slots) ≡ Some (c.in-Some.slot, c.in-Some.offset) =
+    ap (λ (l : List (Option Slot)). room_in c.args.size (without_slot found l)) (sym c.deref-2.ensures.value) ∙ sym c.room_for.ensures ∙ c.in-Some.is in
+    let there = λ (blocks : Blocks) (stands : StandsFor b.tells b.now (kept slots c.args.bank.now) blocks). room_there found c.args.size c.in-Some.slot c.in-Some.offset slots blocks stands.slots room in
+    record {
+      booted = search rules;
+      ok = λ blocks stands.
+          subst (λ (l : Blocks). StandsFor b.tells b.now (kept c.make_instead.new.slots.items c.make_instead.new.bank) l)
+          (ap (λ (name : List ℕ). with_new false c.in-Some.slot (record { kind = c.args.kind; offset = c.in-Some.offset; size = c.args.size; name = name }) (freed found blocks)) c.copy.ensures
+          ∙ reserved_is c.args.kind c.args.name.now c.args.size c.in-Some.slot c.in-Some.offset found blocks (old blocks stands) (there blocks stands))
+          (c.in-Ok.ensures.alters.ok blocks stands);
+      slot = λ blocks stands. ap (λ o. least_free (freed o blocks)) (sym (old blocks stands)) ∙ (there blocks stands).slot;
+      full = λ blocks stands. ap not (sym (ap (λ o. has_room c.args.size o blocks) (sym (old blocks stands)) ∙ has_that_room found c.args.size c.in-Some.slot c.in-Some.offset blocks (there blocks stands)));
+      untouched = search rules;
+      err = search rules;
+      breaks = search rules;
+      flags = search rules;
+      moments = λ m blocks stands.
+          leaves_among (c.make_instead.ensures.alters.moments m blocks stands)
+          (subst (λ (name : List ℕ). (image : List ℕ) → MakeLeaves found c.in-Some.slot (record { kind = c.args.kind; offset = c.in-Some.offset; size = c.args.size; name = name }) blocks image → LeavesIn (reserve c.args.kind c.args.name.now c.args.size) blocks image) (sym c.copy.ensures)
+          (make_leaves c.args.kind c.args.name.now c.args.size c.in-Some.slot c.in-Some.offset found blocks (old blocks stands) (there blocks stands)));
+      steady = search rules;
+      counted = search rules;
+      bank_calls = search rules;
+    }
 
-pub returns-in-Ok-clause-slot : goal.returns-in-Ok-clause-slot
-returns-in-Ok-clause-slot g c blocks stands =
-    let slots = c.args.slots.now.items in
-    let old : c.find_doubtful-old.result ≡ doubtful_of c.args.kind c.args.name.now blocks =
-    c.find_doubtful-old.ensures.slot ∙ ap (doubtful_slot c.args.kind c.args.name.now) c.deref.ensures.value ∙ doubtful_same c.args.kind c.args.name.now slots blocks stands.slots in
-    let room : room_in c.args.size (without_slot c.find_doubtful-old.result slots) ≡ Some (c.in-Some.slot, c.in-Some.offset) =
-    ap (λ (l : List (Option Slot)). room_in c.args.size (without_slot c.find_doubtful-old.result l)) (sym c.deref-2.ensures.value) ∙ sym c.room_for.ensures ∙ c.in-Some.is in
-    ap (λ o. least_free (freed o blocks)) (sym old) ∙ (room_there c.find_doubtful-old.result c.args.size c.in-Some.slot c.in-Some.offset slots blocks stands.slots room).slot
-
-pub returns-in-Ok-clause-full : goal.returns-in-Ok-clause-full
-returns-in-Ok-clause-full g c blocks stands =
-    let slots = c.args.slots.now.items in
-    let old : c.find_doubtful-old.result ≡ doubtful_of c.args.kind c.args.name.now blocks =
-    c.find_doubtful-old.ensures.slot ∙ ap (doubtful_slot c.args.kind c.args.name.now) c.deref.ensures.value ∙ doubtful_same c.args.kind c.args.name.now slots blocks stands.slots in
-    let room : room_in c.args.size (without_slot c.find_doubtful-old.result slots) ≡ Some (c.in-Some.slot, c.in-Some.offset) =
-    ap (λ (l : List (Option Slot)). room_in c.args.size (without_slot c.find_doubtful-old.result l)) (sym c.deref-2.ensures.value) ∙ sym c.room_for.ensures ∙ c.in-Some.is in
-    ap not (sym (ap (λ o. has_room c.args.size o blocks) (sym old) ∙ has_that_room c.find_doubtful-old.result c.args.size c.in-Some.slot c.in-Some.offset blocks (room_there c.find_doubtful-old.result c.args.size c.in-Some.slot c.in-Some.offset slots blocks stands.slots room)))
-
-pub returns-in-Ok-clause-moments : goal.returns-in-Ok-clause-moments
-returns-in-Ok-clause-moments g c told blocks stands =
-    let slots = c.args.slots.now.items in
-    let old : c.find_doubtful-old.result ≡ doubtful_of c.args.kind c.args.name.now blocks =
-    c.find_doubtful-old.ensures.slot ∙ ap (doubtful_slot c.args.kind c.args.name.now) c.deref.ensures.value ∙ doubtful_same c.args.kind c.args.name.now slots blocks stands.slots in
-    let room : room_in c.args.size (without_slot c.find_doubtful-old.result slots) ≡ Some (c.in-Some.slot, c.in-Some.offset) =
-    ap (λ (l : List (Option Slot)). room_in c.args.size (without_slot c.find_doubtful-old.result l)) (sym c.deref-2.ensures.value) ∙ sym c.room_for.ensures ∙ c.in-Some.is in
-    let there = room_there c.find_doubtful-old.result c.args.size c.in-Some.slot c.in-Some.offset slots blocks stands.slots room in
-    leaves_among (c.make_instead.ensures.moments told blocks stands)
-    (subst (λ (name : List ℕ). (image : List ℕ) → MakeLeaves c.find_doubtful-old.result c.in-Some.slot (record { kind = c.args.kind; offset = c.in-Some.offset; size = c.args.size; name = name }) blocks image → LeavesIn (reserve c.args.kind c.args.name.now c.args.size) blocks image) (sym c.copy.ensures)
-    (make_leaves c.args.kind c.args.name.now c.args.size c.in-Some.slot c.in-Some.offset c.find_doubtful-old.result blocks old there))
-
-pub returns-in-Err-clause-full : goal.returns-in-Err-clause-full
-returns-in-Err-clause-full g c blocks stands =
-    let slots = c.args.slots.now.items in
-    let old : c.find_doubtful-old.result ≡ doubtful_of c.args.kind c.args.name.now blocks =
-    c.find_doubtful-old.ensures.slot ∙ ap (doubtful_slot c.args.kind c.args.name.now) c.deref.ensures.value ∙ doubtful_same c.args.kind c.args.name.now slots blocks stands.slots in
-    let room : room_in c.args.size (without_slot c.find_doubtful-old.result slots) ≡ Some (c.in-Some.slot, c.in-Some.offset) =
-    ap (λ (l : List (Option Slot)). room_in c.args.size (without_slot c.find_doubtful-old.result l)) (sym c.deref-2.ensures.value) ∙ sym c.room_for.ensures ∙ c.in-Some.is in
-    ap not (sym (ap (λ o. has_room c.args.size o blocks) (sym old) ∙ has_that_room c.find_doubtful-old.result c.args.size c.in-Some.slot c.in-Some.offset blocks (room_there c.find_doubtful-old.result c.args.size c.in-Some.slot c.in-Some.offset slots blocks stands.slots room)))
-
-pub returns-in-Err-clause-err : goal.returns-in-Err-clause-err
-returns-in-Err-clause-err g c blocks stands =
+pub returns-in-Err-clause-reserves : goal.returns-in-Err-clause-reserves
+returns-in-Err-clause-reserves g c =
     let b = g.B.Bank in
     let slots = c.args.slots.now.items in
-    let fault = c.in-Err.fault in
-    let old : c.find_doubtful-old.result ≡ doubtful_of c.args.kind c.args.name.now blocks =
-    c.find_doubtful-old.ensures.slot ∙ ap (doubtful_slot c.args.kind c.args.name.now) c.deref.ensures.value ∙ doubtful_same c.args.kind c.args.name.now slots blocks stands.slots in
-    let room : room_in c.args.size (without_slot c.find_doubtful-old.result slots) ≡ Some (c.in-Some.slot, c.in-Some.offset) =
-    ap (λ (l : List (Option Slot)). room_in c.args.size (without_slot c.find_doubtful-old.result l)) (sym c.deref-2.ensures.value) ∙ sym c.room_for.ensures ∙ c.in-Some.is in
-    let there = room_there c.find_doubtful-old.result c.args.size c.in-Some.slot c.in-Some.offset slots blocks stands.slots room in
-    subst (λ (l : Blocks). StandsFor b.tells b.now (kept c.make_instead.new.slots.items c.make_instead.new.bank) l)
-    (ap (λ (name : List ℕ). broken_at (is_gate fault) (is_old fault) c.find_doubtful-old.result c.in-Some.slot (record { kind = c.args.kind; offset = c.in-Some.offset; size = c.args.size; name = name }) blocks) c.copy.ensures
-    ∙ broken_is c.args.kind c.args.name.now c.args.size c.in-Some.slot c.in-Some.offset c.find_doubtful-old.result blocks old there (is_gate fault) (is_old fault) (λ set. (c.in-Err.ensures.flags set).0))
-    (c.in-Err.ensures.err blocks stands)
-
-pub returns-in-Err-clause-moments : goal.returns-in-Err-clause-moments
-returns-in-Err-clause-moments g c told blocks stands =
-    let slots = c.args.slots.now.items in
-    let old : c.find_doubtful-old.result ≡ doubtful_of c.args.kind c.args.name.now blocks =
-    c.find_doubtful-old.ensures.slot ∙ ap (doubtful_slot c.args.kind c.args.name.now) c.deref.ensures.value ∙ doubtful_same c.args.kind c.args.name.now slots blocks stands.slots in
-    let room : room_in c.args.size (without_slot c.find_doubtful-old.result slots) ≡ Some (c.in-Some.slot, c.in-Some.offset) =
-    ap (λ (l : List (Option Slot)). room_in c.args.size (without_slot c.find_doubtful-old.result l)) (sym c.deref-2.ensures.value) ∙ sym c.room_for.ensures ∙ c.in-Some.is in
-    let there = room_there c.find_doubtful-old.result c.args.size c.in-Some.slot c.in-Some.offset slots blocks stands.slots room in
-    leaves_among (c.make_instead.ensures.moments told blocks stands)
-    (subst (λ (name : List ℕ). (image : List ℕ) → MakeLeaves c.find_doubtful-old.result c.in-Some.slot (record { kind = c.args.kind; offset = c.in-Some.offset; size = c.args.size; name = name }) blocks image → LeavesIn (reserve c.args.kind c.args.name.now c.args.size) blocks image) (sym c.copy.ensures)
-    (make_leaves c.args.kind c.args.name.now c.args.size c.in-Some.slot c.in-Some.offset c.find_doubtful-old.result blocks old there))
+    let found = c.find_doubtful-old.result in
+    let is : found ≡ doubtful_slot c.args.kind c.args.name.now slots = c.find_doubtful-old.ensures.slot ∙ ap (doubtful_slot c.args.kind c.args.name.now) c.deref.ensures.value in
+    let old = λ (blocks : Blocks) (stands : StandsFor b.tells b.now (kept slots c.args.bank.now) blocks). is ∙ doubtful_same c.args.kind c.args.name.now slots blocks stands.slots in
+    let room : room_in c.args.size (without_slot found slots) ≡ Some (c.in-Some.slot, c.in-Some.offset) =
+    ap (λ (l : List (Option Slot)). room_in c.args.size (without_slot found l)) (sym c.deref-2.ensures.value) ∙ sym c.room_for.ensures ∙ c.in-Some.is in
+    let there = λ (blocks : Blocks) (stands : StandsFor b.tells b.now (kept slots c.args.bank.now) blocks). room_there found c.args.size c.in-Some.slot c.in-Some.offset slots blocks stands.slots room in
+    let gate = is_gate c.in-Err.fault in
+    let in_way = is_old c.in-Err.fault in
+    let flags : in_way ≡ true → (gate ≡ true) × IsSome (doubtful_slot c.args.kind c.args.name.now slots) = subst (λ (o : Option ℕ). in_way ≡ true → (gate ≡ true) × IsSome o) is c.in-Err.ensures.flags in
+    record {
+      booted = search rules;
+      ok = search rules;
+      slot = search rules;
+      full = λ blocks stands. ap not (sym (ap (λ o. has_room c.args.size o blocks) (sym (old blocks stands)) ∙ has_that_room found c.args.size c.in-Some.slot c.in-Some.offset blocks (there blocks stands)));
+      untouched = search rules;
+      err = λ blocks stands.
+          subst (λ (l : Blocks). StandsFor b.tells b.now (kept c.make_instead.new.slots.items c.make_instead.new.bank) l)
+          (ap (λ (name : List ℕ). broken_at gate in_way found c.in-Some.slot (record { kind = c.args.kind; offset = c.in-Some.offset; size = c.args.size; name = name }) blocks) c.copy.ensures
+          ∙ broken_is c.args.kind c.args.name.now c.args.size c.in-Some.slot c.in-Some.offset found blocks (old blocks stands) (there blocks stands) gate in_way (λ set. (flags set).0))
+          (c.in-Err.ensures.alters.err blocks stands);
+      breaks = λ blocks stands set. ((flags set).0, subst IsSome (doubtful_same c.args.kind c.args.name.now slots blocks stands.slots) (flags set).1);
+      flags = flags;
+      moments = λ m blocks stands.
+          leaves_among (c.make_instead.ensures.alters.moments m blocks stands)
+          (subst (λ (name : List ℕ). (image : List ℕ) → MakeLeaves found c.in-Some.slot (record { kind = c.args.kind; offset = c.in-Some.offset; size = c.args.size; name = name }) blocks image → LeavesIn (reserve c.args.kind c.args.name.now c.args.size) blocks image) (sym c.copy.ensures)
+          (make_leaves c.args.kind c.args.name.now c.args.size c.in-Some.slot c.in-Some.offset found blocks (old blocks stands) (there blocks stands)));
+      steady = search rules;
+      counted = search rules;
+      bank_calls = search rules;
+    }

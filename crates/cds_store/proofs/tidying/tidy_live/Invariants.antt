@@ -14,6 +14,6 @@ invariant-loop-slot g l =
       tidied : b.tells → Tidied (b.now l.fn.bank) (b.now l.bank) l.slot;
       steady : Steady b.size b.faults b.stops l.fn.bank l.bank;
       still : Still b.faults b.stops l.fn.bank l.bank;
-      bank_calls : Asks b.tells_calls b.calls l.fn.bank l.bank true (strays_to l.slot l.front l.directory);
+      bank_calls : b.tells → Asks b.tells_calls b.calls l.fn.bank l.bank true (strays_to l.slot l.front l.directory);
       moments : b.tells_moments → LeavesOnly b.clock b.left_since l.fn.bank l.bank (SameStore (b.now l.fn.bank));
     }

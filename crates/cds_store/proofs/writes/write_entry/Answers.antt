@@ -13,28 +13,26 @@ use Rattle.cds_store.proofs.writes.write_entry.Goals as goal
 pub returns-clause-done : goal.returns-clause-done
 returns-clause-done g c =
     let b = c.args.block.now in
-    let old = g.B.Bank.now c.args.bank.now in
     let new = g.B.Bank.now c.write.new.bank in
     let size : length c.entry_bytes.result ≡ 63 = search rules in
     on_ok_weaker c.write.result
     (λ done told.
     let there : piece (17 + 64 * c.args.slot) 63 new ≡ entry_tail b =
-    read_again old new (17 + 64 * c.args.slot) 63 _ size (omega (arith, c.requires.within, c.requires.room, g.met.B.Bank.whole c.args.bank.now told)) (search rules) ∙ c.entry_bytes.ensures in
+    read_again (g.B.Bank.now c.args.bank.now) new (17 + 64 * c.args.slot) 63 _ size (omega (arith, c.requires.within, c.requires.room, g.met.B.Bank.whole c.args.bank.now told)) (search rules) ∙ c.entry_bytes.ensures in
     ap block_in (front new (entry_tail b) (17 + 64 * c.args.slot) 63 51 there (omega arith))
     ∙ block_in-written b c.requires.right (fits_field b c.requires.right (subst (λ (l : List ℕ). length l ≡ 63) c.entry_bytes.ensures size)))
-    c.write.ensures.done
+    c.write.ensures.writes.done
 
 pub returns-clause-none : goal.returns-clause-none
 returns-clause-none g c =
     let b = c.args.block.now in
-    let old = g.B.Bank.now c.args.bank.now in
     let new = g.B.Bank.now c.write.new.bank in
     let slot = c.args.slot in
     let size : length c.entry_bytes.result ≡ 63 = search rules in
     on_ok_weaker c.write.result
     (λ done told.
     let there : piece (17 + 64 * slot) 63 new ≡ entry_tail b =
-    read_again old new (17 + 64 * slot) 63 _ size (omega (arith, c.requires.within, c.requires.room, g.met.B.Bank.whole c.args.bank.now told)) (search rules) ∙ c.entry_bytes.ensures in
+    read_again (g.B.Bank.now c.args.bank.now) new (17 + 64 * slot) 63 _ size (omega (arith, c.requires.within, c.requires.room, g.met.B.Bank.whole c.args.bank.now told)) (search rules) ∙ c.entry_bytes.ensures in
     let fits = fits_field b c.requires.right (subst (λ (l : List ℕ). length l ≡ 63) c.entry_bytes.ensures size) in
     let zero_ : slice_index_or new (17 + 64 * slot + 51) 0 ≡ 0 =
     sym (get_or-drop (17 + 64 * slot) new 51 0) ∙ sym (get_or-take 63 (drop (17 + 64 * slot) new) 51 0 (omega arith)) ∙ ap (λ (l : List ℕ). slice_index_or l 51 0) there ∙ entry_tail-zeros b fits 0 in
@@ -45,4 +43,4 @@ returns-clause-none g c =
     let first = ap (λ at. turn_of (slice_index_or new at 0)) first_place ∙ ap turn_of zero_ in
     let second = ap (λ at. turn_of (slice_index_or new at 0)) second_place ∙ ap turn_of one in
     λ i. shown_by (first i) (second i))
-    c.write.ensures.done
+    c.write.ensures.writes.done

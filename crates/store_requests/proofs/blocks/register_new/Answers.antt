@@ -14,7 +14,7 @@ use Rattle.store_requests.proofs.blocks.register_new.Goals as goal
 pub returns-clause-effect : goal.returns-clause-effect
 returns-clause-effect g c = λ tells s stands.
     let b = g.B.Bank in
-    let made = c.reserve_block-made.ensures in
+    let made = c.reserve_block-made.ensures.reserves in
     new_called b c.args.store.now c.args.store.now c.reserve_block-made.new.self s c.reserved.result c.args.name.now c.args.size c.reserve_block-made.result (λ m. made.moments m s.store stands)
     (reserved_asked b c.args.store.now c.args.store.now c.reserve_block-made.new.self App c.args.name.now c.args.size c.reserved.result.note c.reserve_block-made.result s.store stands.slots (made.full s.store stands)
     (c.reserved.ensures.note_is ∙ ap (reserve_note c.reserve_block-made.result) c.in_ok-note.ensures) made.untouched made.bank_calls)
@@ -26,7 +26,7 @@ returns-clause-effect g c = λ tells s stands.
 pub returns-clause-bank_calls : goal.returns-clause-bank_calls
 returns-clause-bank_calls g c =
     let old = c.args.store.now in
-    let made = c.reserve_block-made.ensures in
+    let made = c.reserve_block-made.ensures.reserves in
     let name = c.args.name.now in
     let doubtful = doubtful_slot App name old.slots in
     bank_calls_make g.B.Bank old.bank c.reserve_block-made.new.self.bank c.reserved.result.note (room_in c.args.size (without_slot doubtful old.slots)) (λ (place : ℕ × ℕ). reserve_calls doubtful place.0 (record { kind = App; offset = place.1; size = c.args.size; name = name }))

@@ -25,23 +25,23 @@ use Rattle.store_requests.proofs.BankCalls.{bank_calls_renew, bank_calls_first, 
 use Rattle.store_requests.proofs.blocks.renew.Goals as goal
 
 pub reserve_block-made-requires-clause-none_open : goal.reserve_block-made-requires-clause-none_open
-reserve_block-made-requires-clause-none_open g c = (c.in-Ok.ensures.alone App c.args.name.now c.requires.open_block).0
+reserve_block-made-requires-clause-none_open g c = (c.in-Ok.ensures.deletes.alone App c.args.name.now c.requires.open_block).0
 
 pub returns-in-Ok-clause-effect : goal.returns-in-Ok-clause-effect
 returns-in-Ok-clause-effect g c = λ tells s stands.
     let b = g.B.Bank in
-    let made = c.reserve_block-made.ensures in
+    let made = c.reserve_block-made.ensures.reserves in
     let note : c.reserved.result.note ≡ reserve_note c.reserve_block-made.result (done_note untouched) = search rules in
     let left = after (delete c.args.old) s.store in
-    let there = c.in-Ok.ensures.ok s.store stands in
-    let none : doubtful_of App c.args.name.now left ≡ None = sym (doubtful_same App c.args.name.now c.delete_block.new.self.slots left there.slots) ∙ (c.in-Ok.ensures.alone App c.args.name.now c.requires.open_block).1 in
-    let deleted = subst (λ (r : Result Unit BankFault). Asks b.tells_calls b.calls c.args.store.now.bank c.delete_block.new.self.bank (is_ok r) (delete_calls c.args.old)) c.in-Ok.is c.delete_block.ensures.bank_calls in
+    let there = c.in-Ok.ensures.deletes.ok s.store stands in
+    let none : doubtful_of App c.args.name.now left ≡ None = sym (doubtful_same App c.args.name.now c.delete_block.new.self.slots left there.slots) ∙ (c.in-Ok.ensures.deletes.alone App c.args.name.now c.requires.open_block).1 in
+    let deleted = subst (λ (r : Result Unit BankFault). Asks b.tells_calls b.calls c.args.store.now.bank c.delete_block.new.self.bank (is_ok r) (delete_calls c.args.old)) c.in-Ok.is c.delete_block.ensures.deletes.bank_calls in
     renewed b c.args.store.now c.delete_block.new.self c.reserve_block-made.new.self s c.reserved.result c.args.name.now c.args.size c.reserve_block-made.result c.args.old
-    (two_leave b c.args.store.now c.delete_block.new.self c.reserve_block-made.new.self (delete c.args.old) (reserve App c.args.name.now c.args.size) s.store (λ m. c.in-Ok.ensures.moments m s.store stands)
-    (λ m. made.moments m (after (delete c.args.old) s.store) (c.in-Ok.ensures.ok s.store stands)))
-    (renewed_asked b c.args.store.now c.delete_block.new.self c.reserve_block-made.new.self App c.args.name.now c.args.size c.reserved.result.note c.reserve_block-made.result left there.slots (made.full left there) c.args.old deleted c.in-Ok.ensures.freed note
+    (two_leave b c.args.store.now c.delete_block.new.self c.reserve_block-made.new.self (delete c.args.old) (reserve App c.args.name.now c.args.size) s.store (λ m. c.in-Ok.ensures.deletes.moments m s.store stands)
+    (λ m. made.moments m (after (delete c.args.old) s.store) (c.in-Ok.ensures.deletes.ok s.store stands)))
+    (renewed_asked b c.args.store.now c.delete_block.new.self c.reserve_block-made.new.self App c.args.name.now c.args.size c.reserved.result.note c.reserve_block-made.result left there.slots (made.full left there) c.args.old deleted c.in-Ok.ensures.deletes.freed note
     (room_left App s.store c.args.name.now c.args.size c.args.old _ (c.requires.room s.store stands) none (made.full left there)) made.bank_calls)
-    (c.in-Ok.ensures.ok s.store stands) (c.in-Ok.ensures.alone App c.args.name.now c.requires.open_block).1 (c.requires.room s.store stands)
+    (c.in-Ok.ensures.deletes.ok s.store stands) (c.in-Ok.ensures.deletes.alone App c.args.name.now c.requires.open_block).1 (c.requires.room s.store stands)
     made.ok made.slot made.full made.err made.breaks
     (told_with c.requires.empty (sym c.reserved.ensures.note_is ∙ note) c.reserved.ensures)
 
@@ -52,9 +52,9 @@ returns-in-Err-clause-effect g c = λ tells s stands.
     let told = told_with c.requires.empty (ap (broken_note c.in-Err.fault) c.requires.untouched) c.broken.ensures in
     by_note b c.args.store.now c.delete_block.new.self s c.broken.result (λ n. then_call (renewal App c.args.name.now c.args.size (Some c.args.old)) n faulted (answered s SUCCESS slot)) (broken_note c.in-Err.fault untouched) told.note_is
     (first_broke b c.args.store.now c.delete_block.new.self s c.broken.result (delete c.args.old) (reserve App c.args.name.now c.args.size ∷ [])
-    (one_leaves b c.args.store.now c.delete_block.new.self (delete c.args.old) (reserve App c.args.name.now c.args.size ∷ []) s.store (λ m. c.in-Err.ensures.moments m s.store stands))
+    (one_leaves b c.args.store.now c.delete_block.new.self (delete c.args.old) (reserve App c.args.name.now c.args.size ∷ []) s.store (λ m. c.in-Err.ensures.deletes.moments m s.store stands))
     (asked_first b c.args.store.now.bank c.delete_block.new.self.bank c.broken.result.note c.args.old c.in-Err.fault told.note_is
-    (subst (λ (r : Result Unit BankFault). Asks b.tells_calls b.calls c.args.store.now.bank c.delete_block.new.self.bank (is_ok r) (delete_calls c.args.old)) c.in-Err.is c.delete_block.ensures.bank_calls) _) refl SUCCESS slot c.in-Err.fault c.args.store.now refl (flags_break true false c.in-Err.fault (delete c.args.old) s.store (refl, refl) c.in-Err.ensures.flags) stands c.in-Err.ensures.err told)
+    (subst (λ (r : Result Unit BankFault). Asks b.tells_calls b.calls c.args.store.now.bank c.delete_block.new.self.bank (is_ok r) (delete_calls c.args.old)) c.in-Err.is c.delete_block.ensures.deletes.bank_calls) _) refl SUCCESS slot c.in-Err.fault c.args.store.now refl (flags_break true false c.in-Err.fault (delete c.args.old) s.store (refl, refl) c.in-Err.ensures.deletes.flags) stands c.in-Err.ensures.deletes.err told)
 
 -- a block of this name in doubt isn't there after the deletion, so there is room
 pub returns-in-Ok-clause-bank_calls : goal.returns-in-Ok-clause-bank_calls
@@ -63,17 +63,17 @@ returns-in-Ok-clause-bank_calls g c = λ blocks stands.
     let old = c.args.store.now in
     let mid = c.delete_block.new.self in
     let new = c.reserve_block-made.new.self in
-    let made = c.reserve_block-made.ensures in
+    let made = c.reserve_block-made.ensures.reserves in
     let name = c.args.name.now in
     let size = c.args.size in
     let left = after (delete c.args.old) blocks in
-    let there = c.in-Ok.ensures.ok blocks stands in
+    let there = c.in-Ok.ensures.deletes.ok blocks stands in
     let doubtful = doubtful_slot App name mid.slots in
-    let none : doubtful_of App name left ≡ None = sym (doubtful_same App name mid.slots left there.slots) ∙ (c.in-Ok.ensures.alone App name c.requires.open_block).1 in
+    let none : doubtful_of App name left ≡ None = sym (doubtful_same App name mid.slots left there.slots) ∙ (c.in-Ok.ensures.deletes.alone App name c.requires.open_block).1 in
     let note : c.reserved.result.note ≡ reserve_note c.reserve_block-made.result (done_note untouched) = search rules in
-    subst (λ (slots : List (Option Slot)). ForSome (option_map (λ (calls : List BankCall). delete_calls c.args.old ++ calls) (make_at App slots name size)) (λ calls. AsksBy b old.bank new.bank c.reserved.result.note.outcome calls)) c.in-Ok.ensures.freed
+    subst (λ (slots : List (Option Slot)). ForSome (option_map (λ (calls : List BankCall). delete_calls c.args.old ++ calls) (make_at App slots name size)) (λ calls. AsksBy b old.bank new.bank c.reserved.result.note.outcome calls)) c.in-Ok.ensures.deletes.freed
     (bank_calls_renew b old.bank new.bank c.reserved.result.note (room_in size (without_slot doubtful mid.slots)) (λ (place : ℕ × ℕ). reserve_calls doubtful place.0 (record { kind = App; offset = place.1; size = size; name = name })) mid.bank c.args.old
-    (subst (λ (r : Result Unit BankFault). Asks b.tells_calls b.calls old.bank mid.bank (is_ok r) (delete_calls c.args.old)) c.in-Ok.is c.delete_block.ensures.bank_calls)
+    (subst (λ (r : Result Unit BankFault). Asks b.tells_calls b.calls old.bank mid.bank (is_ok r) (delete_calls c.args.old)) c.in-Ok.is c.delete_block.ensures.deletes.bank_calls)
     c.reserve_block-made.result note (room_left App blocks name size c.args.old _ (c.requires.room blocks stands) none (made.full left there)) made.bank_calls)
 
 pub returns-in-Err-clause-bank_calls : goal.returns-in-Err-clause-bank_calls
@@ -83,4 +83,4 @@ returns-in-Err-clause-bank_calls g c = λ blocks stands.
     let new = c.delete_block.new.self in
     bank_calls_first b old.bank new.bank c.broken.result.note c.args.old c.in-Err.fault (make_at App (slice_set old.slots c.args.old None) c.args.name.now c.args.size)
     (c.broken.ensures.note_is ∙ ap (broken_note c.in-Err.fault) c.requires.untouched)
-    (subst (λ (r : Result Unit BankFault). Asks b.tells_calls b.calls old.bank new.bank (is_ok r) (delete_calls c.args.old)) c.in-Err.is c.delete_block.ensures.bank_calls)
+    (subst (λ (r : Result Unit BankFault). Asks b.tells_calls b.calls old.bank new.bank (is_ok r) (delete_calls c.args.old)) c.in-Err.is c.delete_block.ensures.deletes.bank_calls)

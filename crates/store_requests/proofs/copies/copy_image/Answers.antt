@@ -42,7 +42,7 @@ returns-clause-copies g c = λ tells e t is named sized stands.
     let before = told_effect c.args.answer c.args.bytes.now.list c.args.report.now in
     let done = reported_effect c.copied.result c.copied.new.bytes.list c.copied.new.report c.copied.new.note in
     let there : block_of t e.next.store ≡ Some slot = sym (c.sized_block.ensures.block t e.next.store named (sized ∙ ap length (sym c.bytes.ensures)) stands) ∙ (search rules) in
-    let ended = c.copy-ended.ensures in
+    let ended = c.copy-ended.ensures.copies in
     let store = c.args.store.now in
     let image = c.args.image.now in
     let calls = λ (s : Slot). copy_calls (b.now store.bank) slot s.block (spelled s.block.size image) in
@@ -58,7 +58,7 @@ returns-clause-call g c =
     let b = g.B.Bank in
     let before = told_effect c.args.answer c.args.bytes.now.list c.args.report.now in
     let done = reported_effect c.copied.result c.copied.new.bytes.list c.copied.new.report c.copied.new.note in
-    copied_call b c.args.store.now c.copy-ended.new.self before done c.args.row c.in-Some.slot c.copy-ended.result c.copy-ended.ensures.booted (search rules) (search rules) c.copy-ended.ensures.counted c.copied.ensures
+    copied_call b c.args.store.now c.copy-ended.new.self before done c.args.row c.in-Some.slot c.copy-ended.result c.copy-ended.ensures.copies.booted (search rules) (search rules) c.copy-ended.ensures.copies.counted c.copied.ensures
 
 pub returns-clause-room : goal.returns-clause-room
 returns-clause-room g c = λ packets had.

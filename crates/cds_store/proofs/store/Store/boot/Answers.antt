@@ -1,27 +1,21 @@
-use Rattle.std.proofs.Common.{sym, subst}
-use Rattle.tbl_outside.specs.Bank.{LeavesOnly}
-use Rattle.cds_store.specs.Boots.{BeginsAt}
-use Rattle.cds_store.specs.Moments.{BootLeaves}
+use Rattle.std.proofs.Common.{refl, subst, true, false, Ok, Err}
+use Rattle.cds_layout.specs.Order.{boot_calls}
+use Rattle.cds_store.specs.Promises.{Boots}
 use Rattle.cds_store.specs.StoreBlocks.{StoreParts}
-use Rattle.cds_store.proofs.Settled.{begins_kept}
+use Rattle.cds_store.proofs.Settled.{boots_store}
 use Rattle.cds_store.proofs.store.Store.boot.Goals as goal
 
-pub returns-in-Err-clause-moments : goal.returns-in-Err-clause-moments
-returns-in-Err-clause-moments g c told blocks begins =
+pub returns-in-Ok-clause-boots : goal.returns-in-Ok-clause-boots
+returns-in-Ok-clause-boots g c =
     let b = g.B.Bank in
-    let k : StoreParts _ = record { slots = c.self.inside.slots.items; bank = c.self.inside.bank; booted = c.self.inside.booted } in
-    subst (λ (s : StoreParts _). LeavesOnly b.clock b.left_since s.bank c.boot-ended.new.bank (BootLeaves c.args.kind blocks)) c.self.view_is
-    (c.boot-ended.ensures.moments told blocks (begins_kept b.tells b.now k blocks (subst (λ (s : StoreParts _). BeginsAt b.tells b.now s blocks) (sym c.self.view_is) begins)))
+    let old : StoreParts _ = record { slots = c.self.inside.slots.items; bank = c.self.inside.bank; booted = c.self.inside.booted } in
+    let slots = c.boot-ended.new.slots.items in
+    subst (λ (o : StoreParts _). Boots b o (record { slots = slots; bank = c.boot-ended.new.bank; booted = true }) c.args.kind (boot_calls c.args.kind (b.now o.bank)) (Ok c.in-Ok.found)) c.self.view_is
+    (boots_store b c.args.kind (boot_calls c.args.kind (b.now c.self.inside.bank)) old slots slots c.boot-ended.new.bank true (Ok c.in-Ok.found) refl c.in-Ok.ensures.boots)
 
-pub returns-in-Ok-clause-moments : goal.returns-in-Ok-clause-moments
-returns-in-Ok-clause-moments g c told blocks begins =
+pub returns-in-Err-clause-boots : goal.returns-in-Err-clause-boots
+returns-in-Err-clause-boots g c =
     let b = g.B.Bank in
-    let k : StoreParts _ = record { slots = c.self.inside.slots.items; bank = c.self.inside.bank; booted = c.self.inside.booted } in
-    subst (λ (s : StoreParts _). LeavesOnly b.clock b.left_since s.bank c.boot-ended.new.bank (BootLeaves c.args.kind blocks)) c.self.view_is
-    (c.boot-ended.ensures.moments told blocks (begins_kept b.tells b.now k blocks (subst (λ (s : StoreParts _). BeginsAt b.tells b.now s blocks) (sym c.self.view_is) begins)))
-
-pub returns-in-Ok-clause-ok : goal.returns-in-Ok-clause-ok
-returns-in-Ok-clause-ok g c told blocks begins =
-    let b = g.B.Bank in
-    let k : StoreParts _ = record { slots = c.self.inside.slots.items; bank = c.self.inside.bank; booted = c.self.inside.booted } in
-    c.in-Ok.ensures.ok told blocks (begins_kept b.tells b.now k blocks (subst (λ (s : StoreParts _). BeginsAt b.tells b.now s blocks) (sym c.self.view_is) begins))
+    let old : StoreParts _ = record { slots = c.self.inside.slots.items; bank = c.self.inside.bank; booted = c.self.inside.booted } in
+    subst (λ (o : StoreParts _). Boots b o (record { slots = c.forget_all.new.slots.items; bank = c.boot-ended.new.bank; booted = false }) c.args.kind (boot_calls c.args.kind (b.now o.bank)) (Err c.in-Err.fault)) c.self.view_is
+    (boots_store b c.args.kind (boot_calls c.args.kind (b.now c.self.inside.bank)) old c.boot-ended.new.slots.items c.forget_all.new.slots.items c.boot-ended.new.bank false (Err c.in-Err.fault) tt c.in-Err.ensures.boots)
