@@ -31,6 +31,11 @@ sum_full_too a' b' top full = omega (arith, full)
 sum_grows : (a b a' b' top : ℕ) → a ≤ a' → b ≤ b' → min (a + b) top ≤ min (a' + b') top
 sum_grows a b a' b' top first second = omega (arith, first, second)
 
+-- two facts of one error
+pub both_err : {T E P Q R : Type 0} (result : Result T E) → (P → Q → R) → OnErr result P → OnErr result Q → OnErr result R
+both_err (Ok x) join one two = tt
+both_err (Err e) join one two = join one two
+
 module _ {A B : Type 0} (a : Ghosts A) (b : Ghosts B) where
   stops_rise : (old new : Pair A B) → IsSince a b (old.first, old.second) new → OneStopped a b (old.first, old.second) new → Rose (stops_of a b old) (stops_of a b new)
   stops_rise old new since (inl (inl rose)) = sum_rises (a.stops old.first) (b.stops old.second) (a.stops new.first) (b.stops new.second) (2 ^ 64 - 1) since.first_stops since.second_stops (omega (arith, rose, since.second_stops))

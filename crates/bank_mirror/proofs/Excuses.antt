@@ -1,5 +1,5 @@
 -- How counts and excuses go on over the calls of two banks.
-use Rattle.std.proofs.Common.{◌≡◌, inl, inr, ⊎_elim, Bool, ◌∙◌, arith}
+use Rattle.std.proofs.Common.{◌≡◌, inl, inr, ⊎_elim, Bool, ◌∙◌, ap, arith}
 use Rattle.tbl_outside.specs.declared.bank.Bank.{Ghosts}
 use Rattle.tbl_outside.specs.declared.bank.Written.{Written}
 use Rattle.tbl_outside.specs.declared.bank.Written.TheVariants.{Done, Failed, Stopped}
@@ -86,6 +86,12 @@ module _ {A B : Type 0} (a : Ghosts A) (b : Ghosts B) where
   first_out_too mark_failed opening pair (inl second) first = inl (first, second)
   first_out_too mark_failed opening pair (inr (inl stopped)) first = inr (inl (inl first, stopped))
   first_out_too mark_failed opening pair (inr (inr mark)) first = inr (inr mark)
+
+  -- what a write of the second counts
+  pub second_counted : (old new : Pair A B) (written : Written) → new.first ≡ old.first → Counted b.faults b.stops old.second new.second written → WriteCounted a b (old.first, old.second) new written
+  second_counted old new Done other counted = (ap a.stops other, counted.1)
+  second_counted old new Failed other counted = (inr counted.0, (ap a.stops other, counted.1))
+  second_counted old new Stopped other counted = inr counted.0
 
   -- a write after a call in which no count of stops rose
   pub counted_after : (old mid new : Pair A B) (written : Written) → GoesOn a b old mid → a.stops mid.first ≡ a.stops old.first → b.stops mid.second ≡ b.stops old.second

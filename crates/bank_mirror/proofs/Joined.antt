@@ -1,7 +1,7 @@
 -- What a reset leaves of two banks while one of them is read.
-use Rattle.std.proofs.Common.{◌≡◌, List, ℕ, ◌∙◌}
+use Rattle.std.proofs.Common.{◌≡◌}
 use Rattle.tbl_outside.specs.declared.bank.Bank.{Ghosts}
-use Rattle.tbl_outside.proofs.Moments.{leaves_among, goes_on}
+use Rattle.tbl_outside.proofs.Moments.{leaves_among}
 use Rattle.bank_mirror.specs.Pairs.{Pair, pair_of, bytes_of}
 use Rattle.bank_mirror.specs.Moments.{OfFirst, OfSecond, Leaves}
 use Rattle.bank_mirror.proofs.Bytes.{of_first-same, of_second-same}
@@ -17,8 +17,3 @@ module _ {A B : Type 0} (a : Ghosts A) (b : Ghosts B) where
   -- what both hold together stays where the bytes of both do
   pub bytes_same : (old new : Pair A B) → a.now new.first ≡ a.now old.first → b.now new.second ≡ b.now old.second → bytes_of a b new ≡ bytes_of a b old
   bytes_same old new first second = λ i. pair_of (first i) (second i)
-
-  -- two calls in a row, neither of which changes it
-  pub still_same : (old mid new : Pair A B) (bytes : List ℕ) → Leaves a b old mid (λ image. image ≡ bytes) → bytes_of a b mid ≡ bytes → Leaves a b mid new (λ image. image ≡ bytes_of a b mid)
-      → Leaves a b old new (λ image. image ≡ bytes)
-  still_same old mid new bytes before same after = goes_on before after (λ image is. is ∙ same)

@@ -23,6 +23,19 @@ pub record TellsMoments {A : Type 0} (a : Ghosts A) : Type 0 where
   pub leaves_only_now : (bank : A) (image : List ℕ) → a.may_leave bank image → image ≡ a.now bank
   pub only_now : (bank : A) (image : List ℕ) → a.left_since bank (a.clock bank) image → a.may_leave bank image
 
+pub told_moments : {A : Type 0} (a : Ghosts A) → a.tells_moments
+    → ((bank : A) (t : ℕ) (image : List ℕ) → a.tells_moments → t ≤ a.clock bank → a.may_leave bank image → a.left_since bank t image)
+    → ((bank : A) → a.tells_moments → a.may_leave bank (a.now bank))
+    → ((bank : A) (image : List ℕ) → a.tells_moments → a.may_leave bank image → image ≡ a.now bank)
+    → ((bank : A) (image : List ℕ) → a.tells_moments → a.left_since bank (a.clock bank) image → a.may_leave bank image)
+    → TellsMoments a
+told_moments a told counts leaves leaves_only only = record {
+  counts_now = λ bank t image. counts bank t image told;
+  leaves_now = λ bank. leaves bank told;
+  leaves_only_now = λ bank image. leaves_only bank image told;
+  only_now = λ bank image. only bank image told;
+}
+
 module _ {A B : Type 0} (a : Ghosts A) (b : Ghosts B) where
   -- one call more
   snoc_came : (past : List (A × B)) (p last : A × B) (image : List ℕ) → From a b (past ++ p ∷ []) last image → From a b past p image ⊎ InStep a b p last image

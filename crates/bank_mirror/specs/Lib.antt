@@ -2,8 +2,10 @@ pub mod Pairs
 pub mod Moments
 pub mod Counts
 pub mod LastCalls
+pub mod Kept
 pub mod BanksInUse
 pub mod Mirrors
 pub mod Checks
 pub mod Openings
+pub mod Begun
 pub mod Laws

@@ -1,13 +1,15 @@
 -- Two banks as one bank.
-use Rattle.std.specs.Prelude.{◌≡◌, ℕ, Bool, true, false, List}
+use Rattle.std.specs.Prelude.{◌≡◌, ℕ, ◌≤◌, Bool, true, false, List}
 use Rattle.tbl_outside.specs.declared.bank.Written.{Written}
 use Rattle.tbl_outside.specs.declared.bank.Written.TheVariants.{Done, Failed, Stopped}
 use Rattle.tbl_outside.specs.declared.bank.Bank.{Ghosts}
 use Rattle.bank_mirror.specs.declared.in_use.InUse.{InUse}
+use Rattle.bank_mirror.specs.declared.in_use.InUse.TheVariants.{Unread}
 use Rattle.bank_mirror.specs.Pairs.{Pair}
 use Rattle.bank_mirror.specs.Moments.{moment, LeftSince}
-use Rattle.bank_mirror.specs.Counts.{opening_of, IsSince, stops_of}
-use Rattle.bank_mirror.specs.BanksInUse.{IsHeld, IsExcused}
+use Rattle.bank_mirror.specs.Counts.{opening_of, IsSince, stops_of, OneFailed, MayFail}
+use Rattle.bank_mirror.specs.LastCalls.{LastReadFailed}
+use Rattle.bank_mirror.specs.BanksInUse.{IsHeld, IsExcused, LeavesOut}
 
 -- both, which of them is in, whether the opening's write of the mark failed or it left one out, and how often a call failed
 pub record Mirrored (A B : Type 0) : Type 0 where
@@ -45,3 +47,15 @@ abbrev pub fails : Written → Bool
 fails Done = false
 fails Failed = true
 fails Stopped = false
+
+-- what each call keeps to, however it ends. The mark stays unread only where the last call was a read that failed
+pub record KeepsRules {A B : Type 0} (a : Ghosts A) (b : Ghosts B) (old new : Mirrored A B) : Type 0 where
+  pub stop_count : stops_in a b old ≤ stops_in a b new
+  pub opening : SameOpening old new
+  pub out : LeavesOut old.in_use old.pair new.pair new.in_use
+  pub last : new.in_use ≡ Unread → LastReadFailed a b new.pair
+
+-- a call fails only where one of the two failed in it, and one that is out had its cause since the opening
+pub record FailsFor {A B : Type 0} (a : Ghosts A) (b : Ghosts B) (old new : Mirrored A B) : Type 0 where
+  pub fault : OneFailed a b (old.pair.first, old.pair.second) new.pair
+  pub cause : MayFail a b new.mark_failed (opening_of new.pair) new.pair

@@ -1,13 +1,9 @@
 //! An opening that looks first, and doesn't copy a blank first bank over a live store in the second.
 
-ghost use Rattle.std.specs.Prelude.{◌≡◌, ◌≤◌, ◌&&◌, true, false, length, OnOk, OnErr, IfOk, IfErr};
-ghost use Rattle.tbl_kinds.specs.Numbers.{byte_at};
-ghost use Rattle.bank_mirror.specs.Pairs.{BothTell, BothTellMoments, bytes_of, is_marked, SameBytes};
-ghost use Rattle.bank_mirror.specs.Moments.{Leaves};
-ghost use Rattle.bank_mirror.specs.Counts.{GoesOn, OneFailed, SecondFailed, BothStill};
-ghost use Rattle.bank_mirror.specs.LastCalls.{LastReadFailed};
-ghost use Rattle.bank_mirror.specs.BanksInUse.{IsHeld, IsExcused};
-ghost use Rattle.bank_mirror.specs.Openings.{CheckCounted};
+ghost use Rattle.std.specs.Prelude.{◌≡◌, ◌≤◌, ◌&&◌, false, length, IfOk, IfErr};
+ghost use Rattle.bank_mirror.specs.Pairs.{BothTell, bytes_of};
+ghost use Rattle.bank_mirror.specs.Kept.{HoldsOnly, Keeps, Looks};
+ghost use Rattle.bank_mirror.specs.Openings.{Opens, CheckFails};
 ghost use Rattle.bank_mirror.specs.Checks.{is_blank, is_live, loses_store};
 
 use crate::banks::Banks;
@@ -22,13 +18,8 @@ impl<A: Bank, B: Bank> Banks<A, B> {
     fn first_is_blank(&mut self) -> Result<bool, Failed>
         requires room { 3 ≤ A.size self.old.first }
         ensures blank { IfOk result (λ blank. BothTell A.Bank B.Bank → blank ≡ is_blank (A.now self.old.first)) }
-        ensures kept { SameBytes A.Bank B.Bank self.old self.new }
-        ensures moments { BothTellMoments A.Bank B.Bank → Leaves A.Bank B.Bank self.old self.new
-            (λ image. image ≡ bytes_of A.Bank B.Bank self.old) }
-        ensures done { OnOk result (BothStill A.Bank B.Bank (self.old.first, self.old.second) self.new) }
-        ensures failed { OnErr result (OneFailed A.Bank B.Bank (self.old.first, self.old.second) self.new) }
-        ensures last { OnErr result (LastReadFailed A.Bank B.Bank self.new) }
-        ensures goes_on { GoesOn A.Bank B.Bank self.old self.new }
+        ensures keeps { Keeps A.Bank B.Bank self.old self.new }
+        ensures looks { Looks A.Bank B.Bank self.old self.new result }
     {
         let mut front = [0; 3];
         match self.read_first(0, &mut front) {
@@ -41,13 +32,8 @@ impl<A: Bank, B: Bank> Banks<A, B> {
     fn second_is_live(&mut self, live_mark: &[u8; 3]) -> Result<bool, Failed>
         requires room { 3 ≤ A.size self.old.first }
         ensures live { IfOk result (λ live. BothTell A.Bank B.Bank → live ≡ is_live live_mark.now (B.now self.old.second)) }
-        ensures kept { SameBytes A.Bank B.Bank self.old self.new }
-        ensures moments { BothTellMoments A.Bank B.Bank → Leaves A.Bank B.Bank self.old self.new
-            (λ image. image ≡ bytes_of A.Bank B.Bank self.old) }
-        ensures done { OnOk result (BothStill A.Bank B.Bank (self.old.first, self.old.second) self.new) }
-        ensures failed { OnErr result (OneFailed A.Bank B.Bank (self.old.first, self.old.second) self.new) }
-        ensures last { OnErr result (LastReadFailed A.Bank B.Bank self.new) }
-        ensures goes_on { GoesOn A.Bank B.Bank self.old self.new }
+        ensures keeps { Keeps A.Bank B.Bank self.old self.new }
+        ensures looks { Looks A.Bank B.Bank self.old self.new result }
     {
         let mut front = [0; 3];
         match self.read_second(0, &mut front) {
@@ -61,13 +47,8 @@ impl<A: Bank, B: Bank> Banks<A, B> {
         requires room { 3 ≤ A.size self.old.first }
         ensures is { IfOk result (λ it. BothTell A.Bank B.Bank →
             it ≡ (is_blank (A.now self.old.first) && is_live live_mark.now (B.now self.old.second))) }
-        ensures kept { SameBytes A.Bank B.Bank self.old self.new }
-        ensures moments { BothTellMoments A.Bank B.Bank → Leaves A.Bank B.Bank self.old self.new
-            (λ image. image ≡ bytes_of A.Bank B.Bank self.old) }
-        ensures done { OnOk result (BothStill A.Bank B.Bank (self.old.first, self.old.second) self.new) }
-        ensures failed { OnErr result (OneFailed A.Bank B.Bank (self.old.first, self.old.second) self.new) }
-        ensures last { OnErr result (LastReadFailed A.Bank B.Bank self.new) }
-        ensures goes_on { GoesOn A.Bank B.Bank self.old self.new }
+        ensures keeps { Keeps A.Bank B.Bank self.old self.new }
+        ensures looks { Looks A.Bank B.Bank self.old self.new result }
     {
         match self.first_is_blank() {
             Ok(true) => self.second_is_live(live_mark),
@@ -81,13 +62,8 @@ impl<A: Bank, B: Bank> Banks<A, B> {
         requires room { 3 ≤ A.size self.old.first }
         ensures loses { IfOk result (λ loses. BothTell A.Bank B.Bank →
             loses ≡ loses_store live_mark.now (A.now self.old.first) (B.now self.old.second)) }
-        ensures kept { SameBytes A.Bank B.Bank self.old self.new }
-        ensures moments { BothTellMoments A.Bank B.Bank → Leaves A.Bank B.Bank self.old self.new
-            (λ image. image ≡ bytes_of A.Bank B.Bank self.old) }
-        ensures done { OnOk result (BothStill A.Bank B.Bank (self.old.first, self.old.second) self.new) }
-        ensures failed { OnErr result (OneFailed A.Bank B.Bank (self.old.first, self.old.second) self.new) }
-        ensures last { OnErr result (LastReadFailed A.Bank B.Bank self.new) }
-        ensures goes_on { GoesOn A.Bank B.Bank self.old self.new }
+        ensures keeps { Keeps A.Bank B.Bank self.old self.new }
+        ensures looks { Looks A.Bank B.Bank self.old self.new result }
     {
         match self.first_is_stale() {
             Ok(true) => Ok(false),
@@ -100,27 +76,10 @@ impl<A: Bank, B: Bank> Banks<A, B> {
     fn agree_checked(&mut self, buffer: &mut [u8], live_mark: &[u8; 3]) -> Result<Opened, OpenFault>
         requires buffer { length buffer.old ≡ PIECE }
         requires room { 3 ≤ A.size self.old.first }
-        ensures held { IfOk result (λ opened. IsHeld A.Bank B.Bank opened.in_use self.new) }
-        ensures bytes { BothTell A.Bank B.Bank → bytes_of A.Bank B.Bank self.new ≡ bytes_of A.Bank B.Bank self.old }
-        ensures moments { BothTellMoments A.Bank B.Bank → Leaves A.Bank B.Bank self.old self.new
-            (λ image. image ≡ bytes_of A.Bank B.Bank self.old) }
-        ensures excuse { IfOk result (λ opened.
-            IsExcused A.Bank B.Bank opened.mark_failed (self.old.first, self.old.second) self.new opened.in_use) }
-        ensures mark { IfOk result (λ opened. opened.mark_failed ≡ true →
-            SecondFailed A.Bank B.Bank (self.old.first, self.old.second) self.new) }
-        ensures unmarked { IfOk result (λ opened. BothTell A.Bank B.Bank →
-            is_marked A.Bank B.Bank self.old ≡ false → opened.mark_failed ≡ false) }
-        ensures cleared { IfOk result (λ opened. BothTell A.Bank B.Bank →
-            is_marked A.Bank B.Bank self.old ≡ true → opened.in_use ≡ InUse.Both →
-            byte_at (length (A.now self.new.first)) (B.now self.new.second) ≡ 0) }
-        ensures keeps { IfOk result (λ opened. BothTell A.Bank B.Bank →
-            loses_store live_mark.now (A.now self.old.first) (B.now self.old.second) ≡ false) }
-        ensures blank { IfErr result (λ fault. fault ≡ OpenFault.Blank → BothTell A.Bank B.Bank →
-            loses_store live_mark.now (A.now self.old.first) (B.now self.old.second) ≡ true) }
-        ensures untouched { IfErr result (λ fault. fault ≡ OpenFault.Blank → SameBytes A.Bank B.Bank self.old self.new) }
-        ensures last { IfErr result (λ fault. fault ≡ OpenFault.Fault → LastReadFailed A.Bank B.Bank self.new) }
-        ensures counted { IfErr result (CheckCounted A.Bank B.Bank (self.old.first, self.old.second) self.new) }
-        ensures goes_on { GoesOn A.Bank B.Bank self.old self.new }
+        ensures opened { IfOk result (λ opened. Opens A.Bank B.Bank (self.old.first, self.old.second) self.new opened.in_use opened.mark_failed) }
+        ensures keeps { IfOk result (λ _. BothTell A.Bank B.Bank → loses_store live_mark.now (A.now self.old.first) (B.now self.old.second) ≡ false) }
+        ensures failed { IfErr result (CheckFails A.Bank B.Bank live_mark.now (self.old.first, self.old.second) self.new) }
+        ensures holds { HoldsOnly A.Bank B.Bank self.old self.new (λ image. image ≡ bytes_of A.Bank B.Bank self.old) }
     {
         match self.loses_store(live_mark) {
             Ok(true) => Err(OpenFault::Blank),
@@ -137,27 +96,10 @@ impl<A: Bank, B: Bank> Banks<A, B> {
         live_mark: &[u8; 3],
     ) -> Result<Opened, OpenFault>
         requires room { 3 ≤ A.size self.old.first }
-        ensures held { IfOk result (λ opened. IsHeld A.Bank B.Bank opened.in_use self.new) }
-        ensures bytes { BothTell A.Bank B.Bank → bytes_of A.Bank B.Bank self.new ≡ bytes_of A.Bank B.Bank self.old }
-        ensures moments { BothTellMoments A.Bank B.Bank → Leaves A.Bank B.Bank self.old self.new
-            (λ image. image ≡ bytes_of A.Bank B.Bank self.old) }
-        ensures excuse { IfOk result (λ opened.
-            IsExcused A.Bank B.Bank opened.mark_failed (self.old.first, self.old.second) self.new opened.in_use) }
-        ensures mark { IfOk result (λ opened. opened.mark_failed ≡ true →
-            SecondFailed A.Bank B.Bank (self.old.first, self.old.second) self.new) }
-        ensures unmarked { IfOk result (λ opened. BothTell A.Bank B.Bank →
-            is_marked A.Bank B.Bank self.old ≡ false → opened.mark_failed ≡ false) }
-        ensures cleared { IfOk result (λ opened. BothTell A.Bank B.Bank →
-            is_marked A.Bank B.Bank self.old ≡ true → opened.in_use ≡ InUse.Both →
-            byte_at (length (A.now self.new.first)) (B.now self.new.second) ≡ 0) }
-        ensures keeps { IfOk result (λ opened. BothTell A.Bank B.Bank →
-            loses_store live_mark.now (A.now self.old.first) (B.now self.old.second) ≡ false) }
-        ensures blank { IfErr result (λ fault. fault ≡ OpenFault.Blank → BothTell A.Bank B.Bank →
-            loses_store live_mark.now (A.now self.old.first) (B.now self.old.second) ≡ true) }
-        ensures untouched { IfErr result (λ fault. fault ≡ OpenFault.Blank → SameBytes A.Bank B.Bank self.old self.new) }
-        ensures last { IfErr result (λ fault. fault ≡ OpenFault.Fault → LastReadFailed A.Bank B.Bank self.new) }
-        ensures counted { IfErr result (CheckCounted A.Bank B.Bank (self.old.first, self.old.second) self.new) }
-        ensures goes_on { GoesOn A.Bank B.Bank self.old self.new }
+        ensures opened { IfOk result (λ opened. Opens A.Bank B.Bank (self.old.first, self.old.second) self.new opened.in_use opened.mark_failed) }
+        ensures keeps { IfOk result (λ _. BothTell A.Bank B.Bank → loses_store live_mark.now (A.now self.old.first) (B.now self.old.second) ≡ false) }
+        ensures failed { IfErr result (CheckFails A.Bank B.Bank live_mark.now (self.old.first, self.old.second) self.new) }
+        ensures holds { HoldsOnly A.Bank B.Bank self.old self.new (λ image. image ≡ bytes_of A.Bank B.Bank self.old) }
     {
         let mut buffer = vec![in alloc; 0; PIECE as usize]?;
         self.agree_checked(&mut buffer, live_mark)

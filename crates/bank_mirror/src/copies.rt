@@ -1,10 +1,8 @@
 //! The copies that an opening makes, a piece at a time: the bank that is copied from stays as it is.
 
-ghost use Rattle.std.specs.Prelude.{◌≡◌, ◌+◌, ◌≤◌, Ok, true, false, length, take, IfOk, OnErr};
-ghost use Rattle.bank_mirror.specs.Pairs.{BothTell, BothTellMoments, front_of, is_marked};
-ghost use Rattle.bank_mirror.specs.Moments.{Leaves};
-ghost use Rattle.bank_mirror.specs.Counts.{GoesOn, FirstFailed, SecondFailed, FirstBroke, SecondBroke};
-ghost use Rattle.bank_mirror.specs.LastCalls.{LastReadFailed};
+ghost use Rattle.std.specs.Prelude.{◌≡◌, ◌+◌, ◌≤◌, Ok, true, false, length, take};
+ghost use Rattle.bank_mirror.specs.Pairs.{BothTell, front_of, is_marked};
+ghost use Rattle.bank_mirror.specs.Kept.{CopiesBack, EndsBack, CopiesOver, EndsOver};
 
 use crate::banks::Banks;
 use tbl_outside::{Bank, Failed, Written};
@@ -17,17 +15,9 @@ impl<A: Bank, B: Bank> Banks<A, B> {
     pub(crate) fn copy_to_first(&mut self, buffer: &mut [u8]) -> Result<Written, Failed>
         requires buffer { length buffer.old ≡ PIECE }
         requires stale { BothTell A.Bank B.Bank → is_marked A.Bank B.Bank self.old ≡ true }
-        ensures done { result ≡ Ok Written.Done → BothTell A.Bank B.Bank →
-            A.now self.new.first ≡ front_of A.Bank B.Bank self.old }
-        ensures kept { BothTell A.Bank B.Bank → B.now self.new.second ≡ B.now self.old.second }
-        ensures front { BothTell A.Bank B.Bank → front_of A.Bank B.Bank self.new ≡ front_of A.Bank B.Bank self.old }
-        ensures stale { BothTell A.Bank B.Bank → is_marked A.Bank B.Bank self.new ≡ true }
-        ensures moments { BothTellMoments A.Bank B.Bank → Leaves A.Bank B.Bank self.old self.new
-            (λ image. image ≡ front_of A.Bank B.Bank self.old) }
-        ensures broke { IfOk result (FirstBroke A.Bank B.Bank (self.old.first, self.old.second) self.new) }
-        ensures unread { OnErr result (SecondFailed A.Bank B.Bank (self.old.first, self.old.second) self.new) }
-        ensures last { OnErr result (LastReadFailed A.Bank B.Bank self.new) }
-        ensures goes_on { GoesOn A.Bank B.Bank self.old self.new }
+        ensures done { result ≡ Ok Written.Done → BothTell A.Bank B.Bank → A.now self.new.first ≡ front_of A.Bank B.Bank self.old }
+        ensures copies { CopiesBack A.Bank B.Bank self.old self.new }
+        ensures ends { EndsBack A.Bank B.Bank self.old self.new result }
     {
         let size = self.size();
         let mut at = 0;
@@ -50,15 +40,8 @@ impl<A: Bank, B: Bank> Banks<A, B> {
         requires copied { BothTell A.Bank B.Bank → take at (A.now self.old.first) ≡ take at (B.now self.old.second) }
         ensures done { result ≡ Ok Written.Done → BothTell A.Bank B.Bank →
             take (at + length piece.old) (A.now self.new.first) ≡ take (at + length piece.old) (B.now self.old.second) }
-        ensures kept { BothTell A.Bank B.Bank → B.now self.new.second ≡ B.now self.old.second }
-        ensures front { BothTell A.Bank B.Bank → front_of A.Bank B.Bank self.new ≡ front_of A.Bank B.Bank self.old }
-        ensures stale { BothTell A.Bank B.Bank → is_marked A.Bank B.Bank self.new ≡ true }
-        ensures moments { BothTellMoments A.Bank B.Bank → Leaves A.Bank B.Bank self.old self.new
-            (λ image. image ≡ front_of A.Bank B.Bank self.old) }
-        ensures broke { IfOk result (FirstBroke A.Bank B.Bank (self.old.first, self.old.second) self.new) }
-        ensures unread { OnErr result (SecondFailed A.Bank B.Bank (self.old.first, self.old.second) self.new) }
-        ensures last { OnErr result (LastReadFailed A.Bank B.Bank self.new) }
-        ensures goes_on { GoesOn A.Bank B.Bank self.old self.new }
+        ensures copies { CopiesBack A.Bank B.Bank self.old self.new }
+        ensures ends { EndsBack A.Bank B.Bank self.old self.new result }
     {
         match self.read_second(at, piece) {
             Ok(()) => Ok(self.write_first(at, piece)),
@@ -70,16 +53,9 @@ impl<A: Bank, B: Bank> Banks<A, B> {
     pub(crate) fn copy_to_second(&mut self, buffer: &mut [u8]) -> Result<Written, Failed>
         requires buffer { length buffer.old ≡ PIECE }
         requires fresh { BothTell A.Bank B.Bank → is_marked A.Bank B.Bank self.old ≡ false }
-        ensures done { result ≡ Ok Written.Done → BothTell A.Bank B.Bank →
-            front_of A.Bank B.Bank self.new ≡ A.now self.old.first }
-        ensures kept { BothTell A.Bank B.Bank → A.now self.new.first ≡ A.now self.old.first }
-        ensures fresh { BothTell A.Bank B.Bank → is_marked A.Bank B.Bank self.new ≡ false }
-        ensures moments { BothTellMoments A.Bank B.Bank → Leaves A.Bank B.Bank self.old self.new
-            (λ image. image ≡ A.now self.old.first) }
-        ensures broke { IfOk result (SecondBroke A.Bank B.Bank (self.old.first, self.old.second) self.new) }
-        ensures unread { OnErr result (FirstFailed A.Bank B.Bank (self.old.first, self.old.second) self.new) }
-        ensures last { OnErr result (LastReadFailed A.Bank B.Bank self.new) }
-        ensures goes_on { GoesOn A.Bank B.Bank self.old self.new }
+        ensures done { result ≡ Ok Written.Done → BothTell A.Bank B.Bank → front_of A.Bank B.Bank self.new ≡ A.now self.old.first }
+        ensures copies { CopiesOver A.Bank B.Bank self.old self.new }
+        ensures ends { EndsOver A.Bank B.Bank self.old self.new result }
     {
         let size = self.size();
         let mut at = 0;
@@ -102,14 +78,8 @@ impl<A: Bank, B: Bank> Banks<A, B> {
         requires copied { BothTell A.Bank B.Bank → take at (B.now self.old.second) ≡ take at (A.now self.old.first) }
         ensures done { result ≡ Ok Written.Done → BothTell A.Bank B.Bank →
             take (at + length piece.old) (B.now self.new.second) ≡ take (at + length piece.old) (A.now self.old.first) }
-        ensures kept { BothTell A.Bank B.Bank → A.now self.new.first ≡ A.now self.old.first }
-        ensures fresh { BothTell A.Bank B.Bank → is_marked A.Bank B.Bank self.new ≡ false }
-        ensures moments { BothTellMoments A.Bank B.Bank → Leaves A.Bank B.Bank self.old self.new
-            (λ image. image ≡ A.now self.old.first) }
-        ensures broke { IfOk result (SecondBroke A.Bank B.Bank (self.old.first, self.old.second) self.new) }
-        ensures unread { OnErr result (FirstFailed A.Bank B.Bank (self.old.first, self.old.second) self.new) }
-        ensures last { OnErr result (LastReadFailed A.Bank B.Bank self.new) }
-        ensures goes_on { GoesOn A.Bank B.Bank self.old self.new }
+        ensures copies { CopiesOver A.Bank B.Bank self.old self.new }
+        ensures ends { EndsOver A.Bank B.Bank self.old self.new result }
     {
         match self.read_first(at, piece) {
             Ok(()) => Ok(self.write_second(at, piece)),

@@ -1,12 +1,10 @@
 //! An opening in which the caller says which bank is the good one: the mark is set before anything is copied.
 
-ghost use Rattle.std.specs.Prelude.{◌≡◌, ◌⊎◌, true, false, length, OnOk, IfOk, IfErr};
-ghost use Rattle.tbl_kinds.specs.Numbers.{byte_at};
-ghost use Rattle.bank_mirror.specs.Pairs.{BothTell, BothTellMoments, AsWas, bytes_of, front_of, is_marked};
-ghost use Rattle.bank_mirror.specs.Moments.{Leaves};
-ghost use Rattle.bank_mirror.specs.Counts.{GoesOn, SecondFailed};
-ghost use Rattle.bank_mirror.specs.BanksInUse.{IsHeld, IsExcused, in_use_alone, bytes_alone, OtherIsLeft};
-ghost use Rattle.bank_mirror.specs.Openings.{OpenCounted, CallsCounted};
+ghost use Rattle.std.specs.Prelude.{◌≡◌, true, false, length, OnOk, IfOk, IfErr};
+ghost use Rattle.bank_mirror.specs.Pairs.{BothTell, AsWas, bytes_of, front_of, is_marked};
+ghost use Rattle.bank_mirror.specs.Kept.{HoldsOnly, MovesMark};
+ghost use Rattle.bank_mirror.specs.BanksInUse.{IsHeld, in_use_alone, bytes_alone, OtherIsLeft};
+ghost use Rattle.bank_mirror.specs.Openings.{OpensMarked, OpenCounted, CallsCounted};
 
 use crate::banks::{Banks, STALE};
 use crate::copies::PIECE;
@@ -21,12 +19,8 @@ impl<A: Bank, B: Bank> Banks<A, B> {
         ensures marked { OnOk result (BothTell A.Bank B.Bank → is_marked A.Bank B.Bank self.new ≡ true) }
         ensures front { BothTell A.Bank B.Bank → front_of A.Bank B.Bank self.new ≡ front_of A.Bank B.Bank self.old }
         ensures other { self.new.first ≡ self.old.first }
-        ensures bytes { BothTell A.Bank B.Bank → bytes_of A.Bank B.Bank self.new ≡ bytes_of A.Bank B.Bank self.old
-            ⊎ bytes_of A.Bank B.Bank self.new ≡ front_of A.Bank B.Bank self.old }
-        ensures moments { BothTellMoments A.Bank B.Bank → Leaves A.Bank B.Bank self.old self.new
-            (λ image. image ≡ bytes_of A.Bank B.Bank self.old ⊎ image ≡ front_of A.Bank B.Bank self.old) }
         ensures counted { IfErr result (CallsCounted A.Bank B.Bank (self.old.first, self.old.second) self.new) }
-        ensures goes_on { GoesOn A.Bank B.Bank self.old self.new }
+        ensures holds { HoldsOnly A.Bank B.Bank self.old self.new (AsWas A.Bank B.Bank self.old.first self.old.second (front_of A.Bank B.Bank self.old)) }
     {
         match self.first_is_stale() {
             Ok(true) => Ok(()),
@@ -38,12 +32,8 @@ impl<A: Bank, B: Bank> Banks<A, B> {
     /// Sets the mark.
     fn mark_stale(&mut self) -> Result<(), OpenFault>
         ensures marked { OnOk result (BothTell A.Bank B.Bank → is_marked A.Bank B.Bank self.new ≡ true) }
-        ensures front { BothTell A.Bank B.Bank → front_of A.Bank B.Bank self.new ≡ front_of A.Bank B.Bank self.old }
-        ensures other { self.new.first ≡ self.old.first }
-        ensures moments { BothTellMoments A.Bank B.Bank → Leaves A.Bank B.Bank self.old self.new
-            (λ image. image ≡ A.now self.old.first ⊎ image ≡ front_of A.Bank B.Bank self.old) }
+        ensures moves { MovesMark A.Bank B.Bank self.old self.new }
         ensures counted { IfErr result (CallsCounted A.Bank B.Bank (self.old.first, self.old.second) self.new) }
-        ensures goes_on { GoesOn A.Bank B.Bank self.old self.new }
     {
         match self.write_mark(STALE) {
             Written::Done => Ok(()),
@@ -54,21 +44,10 @@ impl<A: Bank, B: Bank> Banks<A, B> {
 
     /// Makes both hold the second's front. All memory that it needs is taken before the first call.
     pub(crate) fn open_second(&mut self, alloc: Global) -> Result<Opened, OpenFault>
-        ensures held { IfOk result (λ opened. IsHeld A.Bank B.Bank opened.in_use self.new) }
-        ensures bytes { IfOk result (λ _. BothTell A.Bank B.Bank →
-            bytes_of A.Bank B.Bank self.new ≡ front_of A.Bank B.Bank self.old) }
-        ensures back_bytes { BothTell A.Bank B.Bank → bytes_of A.Bank B.Bank self.new ≡ bytes_of A.Bank B.Bank self.old
-            ⊎ bytes_of A.Bank B.Bank self.new ≡ front_of A.Bank B.Bank self.old }
-        ensures moments { BothTellMoments A.Bank B.Bank → Leaves A.Bank B.Bank self.old self.new
-            (λ image. image ≡ bytes_of A.Bank B.Bank self.old ⊎ image ≡ front_of A.Bank B.Bank self.old) }
-        ensures excuse { IfOk result (λ opened.
-            IsExcused A.Bank B.Bank opened.mark_failed (self.old.first, self.old.second) self.new opened.in_use) }
-        ensures mark { IfOk result (λ opened. opened.mark_failed ≡ true →
-            SecondFailed A.Bank B.Bank (self.old.first, self.old.second) self.new) }
-        ensures cleared { IfOk result (λ opened. BothTell A.Bank B.Bank → opened.in_use ≡ InUse.Both →
-            byte_at (length (A.now self.new.first)) (B.now self.new.second) ≡ 0) }
+        ensures opened { IfOk result (λ opened. OpensMarked A.Bank B.Bank (self.old.first, self.old.second) self.new opened.in_use opened.mark_failed) }
+        ensures bytes { IfOk result (λ _. BothTell A.Bank B.Bank → bytes_of A.Bank B.Bank self.new ≡ front_of A.Bank B.Bank self.old) }
         ensures counted { IfErr result (OpenCounted A.Bank B.Bank (self.old.first, self.old.second) self.new) }
-        ensures goes_on { GoesOn A.Bank B.Bank self.old self.new }
+        ensures holds { HoldsOnly A.Bank B.Bank self.old self.new (AsWas A.Bank B.Bank self.old.first self.old.second (front_of A.Bank B.Bank self.old)) }
     {
         let mut buffer = vec![in alloc; 0; PIECE as usize]?;
         self.agree_with_second(&mut buffer)
@@ -77,21 +56,10 @@ impl<A: Bank, B: Bank> Banks<A, B> {
     /// Sets the mark, and then makes both hold the second's front, by way of a buffer.
     pub(crate) fn agree_with_second(&mut self, buffer: &mut [u8]) -> Result<Opened, OpenFault>
         requires { length buffer.old ≡ PIECE }
-        ensures held { IfOk result (λ opened. IsHeld A.Bank B.Bank opened.in_use self.new) }
-        ensures bytes { IfOk result (λ _. BothTell A.Bank B.Bank →
-            bytes_of A.Bank B.Bank self.new ≡ front_of A.Bank B.Bank self.old) }
-        ensures back_bytes { BothTell A.Bank B.Bank → bytes_of A.Bank B.Bank self.new ≡ bytes_of A.Bank B.Bank self.old
-            ⊎ bytes_of A.Bank B.Bank self.new ≡ front_of A.Bank B.Bank self.old }
-        ensures moments { BothTellMoments A.Bank B.Bank → Leaves A.Bank B.Bank self.old self.new
-            (λ image. image ≡ bytes_of A.Bank B.Bank self.old ⊎ image ≡ front_of A.Bank B.Bank self.old) }
-        ensures excuse { IfOk result (λ opened.
-            IsExcused A.Bank B.Bank opened.mark_failed (self.old.first, self.old.second) self.new opened.in_use) }
-        ensures mark { IfOk result (λ opened. opened.mark_failed ≡ true →
-            SecondFailed A.Bank B.Bank (self.old.first, self.old.second) self.new) }
-        ensures cleared { IfOk result (λ opened. BothTell A.Bank B.Bank → opened.in_use ≡ InUse.Both →
-            byte_at (length (A.now self.new.first)) (B.now self.new.second) ≡ 0) }
+        ensures opened { IfOk result (λ opened. OpensMarked A.Bank B.Bank (self.old.first, self.old.second) self.new opened.in_use opened.mark_failed) }
+        ensures bytes { IfOk result (λ _. BothTell A.Bank B.Bank → bytes_of A.Bank B.Bank self.new ≡ front_of A.Bank B.Bank self.old) }
         ensures counted { IfErr result (CallsCounted A.Bank B.Bank (self.old.first, self.old.second) self.new) }
-        ensures goes_on { GoesOn A.Bank B.Bank self.old self.new }
+        ensures holds { HoldsOnly A.Bank B.Bank self.old self.new (AsWas A.Bank B.Bank self.old.first self.old.second (front_of A.Bank B.Bank self.old)) }
     {
         match self.set_mark() {
             Ok(()) => self.agree(buffer),
@@ -104,18 +72,11 @@ impl<A: Bank, B: Bank> Banks<A, B> {
         requires fresh { alone ≡ Alone.First → BothTell A.Bank B.Bank → is_marked A.Bank B.Bank self.old ≡ false }
         ensures in_use { IfOk result (λ in_use. in_use ≡ in_use_alone alone) }
         ensures held { IfOk result (λ in_use. IsHeld A.Bank B.Bank in_use self.new) }
-        ensures bytes { IfOk result (λ _. BothTell A.Bank B.Bank →
-            bytes_of A.Bank B.Bank self.new ≡ bytes_alone alone (A.now self.old.first) (B.now self.old.second)) }
-        ensures back_bytes { BothTell A.Bank B.Bank →
-            AsWas A.Bank B.Bank self.old.first self.old.second (bytes_alone alone (A.now self.old.first) (B.now self.old.second))
-            (bytes_of A.Bank B.Bank self.new) }
-        ensures moments { BothTellMoments A.Bank B.Bank → Leaves A.Bank B.Bank self.old self.new
-            (AsWas A.Bank B.Bank self.old.first self.old.second
-            (bytes_alone alone (A.now self.old.first) (B.now self.old.second))) }
+        ensures bytes { IfOk result (λ _. BothTell A.Bank B.Bank → bytes_of A.Bank B.Bank self.new ≡ bytes_alone alone (A.now self.old.first) (B.now self.old.second)) }
         ensures left { OtherIsLeft alone self.old.first self.old.second self.new }
         ensures first { alone ≡ Alone.First → IfErr result (λ _. ⊥) }
         ensures counted { IfErr result (CallsCounted A.Bank B.Bank (self.old.first, self.old.second) self.new) }
-        ensures goes_on { GoesOn A.Bank B.Bank self.old self.new }
+        ensures holds { HoldsOnly A.Bank B.Bank self.old self.new (AsWas A.Bank B.Bank self.old.first self.old.second (bytes_alone alone (A.now self.old.first) (B.now self.old.second))) }
     {
         match alone {
             Alone::First => Ok(InUse::SecondOut),

@@ -8,10 +8,11 @@ ghost use Rattle.bank_mirror.specs.Pairs.{BothTell, BothTellMoments, AsWas, is_s
 ghost use Rattle.bank_mirror.specs.Moments.{LeftSince};
 ghost use Rattle.bank_mirror.specs.Counts.{SecondFailed, OneFailed, IsSince, MayFail, opening_of};
 ghost use Rattle.bank_mirror.specs.LastCalls.{LastReadFailed};
-ghost use Rattle.bank_mirror.specs.Openings.{OpenCounted, CallsCounted, CheckCounted};
+ghost use Rattle.bank_mirror.specs.Openings.{OpenCounted, CallsCounted, Opens, OpensMarked, OpenFails, CheckFails};
+ghost use Rattle.bank_mirror.specs.Begun.{Begins, HandsBack, LeavesSince, returned};
 ghost use Rattle.bank_mirror.specs.Checks.{loses_store};
 ghost use Rattle.bank_mirror.specs.BanksInUse.{IsHeld, IsExcused, LeavesOut, in_use_alone, bytes_alone, OtherIsLeft};
-ghost use Rattle.bank_mirror.specs.Mirrors.{moment_of, LeftSinceOf, faults_of, stops_in, fails, SameOpening};
+ghost use Rattle.bank_mirror.specs.Mirrors.{moment_of, LeftSinceOf, faults_of, stops_in, fails, KeepsRules, FailsFor};
 
 use crate::banks::Banks;
 use crate::in_use::{Alone, InUse};
@@ -72,33 +73,14 @@ impl<A: Bank, B: Bank> Mirror<A, B> {
     /// bank in which a write of the copy fails is out. All memory that it needs is taken before the first call.
     pub fn open(alloc: Global, first: A, second: B) -> Result<Mirror<A, B>, OpenBack<A, B>>
         requires { A.size first < B.size second }
-        ensures bytes { IfOk result (λ m. BothTell A.Bank B.Bank →
-            bytes_of A.Bank B.Bank m.pair ≡ pair_of (A.now first) (B.now second)) }
-        ensures held { IfOk result (λ m. IsHeld A.Bank B.Bank m.in_use m.pair) }
-        ensures moments { IfOk result (λ m. BothTellMoments A.Bank B.Bank → (image : List ℕ) →
-            LeftSince A.Bank B.Bank m.pair 0 image → image ≡ pair_of (A.now first) (B.now second)) }
-        ensures opening { IfOk result (λ m. opening_of m.pair ≡ (first, second)) }
-        ensures excuse { IfOk result (λ m. IsExcused A.Bank B.Bank m.mark_failed (first, second) m.pair m.in_use) }
-        ensures mark { IfOk result (λ m. m.mark_failed ≡ true → SecondFailed A.Bank B.Bank (first, second) m.pair) }
-        ensures unmarked { IfOk result (λ m. BothTell A.Bank B.Bank →
-            is_stale (length (A.now first)) (B.now second) ≡ false → m.mark_failed ≡ false) }
-        ensures cleared { IfOk result (λ m. BothTell A.Bank B.Bank →
-            is_stale (length (A.now first)) (B.now second) ≡ true → m.in_use ≡ InUse.Both →
-            byte_at (length (A.now m.pair.first)) (B.now m.pair.second) ≡ 0) }
-        ensures faults { IfOk result (λ m. m.faults ≡ 0) }
-        ensures size { IfOk result (λ m. A.size m.pair.first ≡ A.size first) }
-        ensures counts { IfOk result (λ m. IsSince A.Bank B.Bank (first, second) m.pair) }
+        ensures begins { IfOk result (Begins A.Bank B.Bank (first, second) (pair_of (A.now first) (B.now second))) }
+        ensures opened { IfOk result (λ m. Opens A.Bank B.Bank (first, second) m.pair m.in_use m.mark_failed) }
+        ensures moments { IfOk result (λ m. LeavesSince A.Bank B.Bank m.pair (λ image. image ≡ pair_of (A.now first) (B.now second))) }
 
-        ensures back_bytes { IfErr result (λ back. BothTell A.Bank B.Bank →
-            pair_of (A.now back.first) (B.now back.second) ≡ pair_of (A.now first) (B.now second)) }
-        ensures back_moments { IfErr result (λ back. BothTellMoments A.Bank B.Bank → (image : List ℕ) →
-            LeftSince A.Bank B.Bank (record { first = back.first; second = back.second; past = back.past.items }) 0 image →
-            image ≡ pair_of (A.now first) (B.now second)) }
-        ensures back_sizes { IfErr result (λ back. A.size back.first ≡ A.size first × B.size back.second ≡ B.size second) }
-        ensures counted { IfErr result (λ back. OpenCounted A.Bank B.Bank (first, second)
-            (record { first = back.first; second = back.second; past = back.past.items }) back.cause) }
-        ensures last { IfErr result (λ back. back.cause ≡ OpenFault.Fault → LastReadFailed A.Bank B.Bank
-            (record { first = back.first; second = back.second; past = back.past.items })) }
+        ensures back { IfErr result (λ back. HandsBack A.Bank B.Bank (first, second) (λ image. image ≡ pair_of (A.now first) (B.now second)) (returned back)) }
+        ensures back_moments { IfErr result (λ back. LeavesSince A.Bank B.Bank (returned back)
+            (λ image. image ≡ pair_of (A.now first) (B.now second))) }
+        ensures failed { IfErr result (λ back. OpenFails A.Bank B.Bank (first, second) (returned back) back.cause) }
     {
         let mut banks = Banks::make(first, second);
         match banks.open(alloc) {
@@ -123,41 +105,16 @@ impl<A: Bank, B: Bank> Mirror<A, B> {
     ) -> Result<Mirror<A, B>, OpenBack<A, B>>
         requires room { A.size first < B.size second }
         requires front { 3 ≤ A.size first }
-        ensures bytes { IfOk result (λ m. BothTell A.Bank B.Bank →
-            bytes_of A.Bank B.Bank m.pair ≡ pair_of (A.now first) (B.now second)) }
-        ensures held { IfOk result (λ m. IsHeld A.Bank B.Bank m.in_use m.pair) }
-        ensures moments { IfOk result (λ m. BothTellMoments A.Bank B.Bank → (image : List ℕ) →
-            LeftSince A.Bank B.Bank m.pair 0 image → image ≡ pair_of (A.now first) (B.now second)) }
-        ensures opening { IfOk result (λ m. opening_of m.pair ≡ (first, second)) }
-        ensures excuse { IfOk result (λ m. IsExcused A.Bank B.Bank m.mark_failed (first, second) m.pair m.in_use) }
-        ensures mark { IfOk result (λ m. m.mark_failed ≡ true → SecondFailed A.Bank B.Bank (first, second) m.pair) }
-        ensures unmarked { IfOk result (λ m. BothTell A.Bank B.Bank →
-            is_stale (length (A.now first)) (B.now second) ≡ false → m.mark_failed ≡ false) }
-        ensures cleared { IfOk result (λ m. BothTell A.Bank B.Bank →
-            is_stale (length (A.now first)) (B.now second) ≡ true → m.in_use ≡ InUse.Both →
-            byte_at (length (A.now m.pair.first)) (B.now m.pair.second) ≡ 0) }
-        ensures faults { IfOk result (λ m. m.faults ≡ 0) }
-        ensures size { IfOk result (λ m. A.size m.pair.first ≡ A.size first) }
-        ensures counts { IfOk result (λ m. IsSince A.Bank B.Bank (first, second) m.pair) }
-
+        ensures begins { IfOk result (Begins A.Bank B.Bank (first, second) (pair_of (A.now first) (B.now second))) }
+        ensures opened { IfOk result (λ m. Opens A.Bank B.Bank (first, second) m.pair m.in_use m.mark_failed) }
+        ensures moments { IfOk result (λ m. LeavesSince A.Bank B.Bank m.pair (λ image. image ≡ pair_of (A.now first) (B.now second))) }
         // It opens both unless a blank first would be copied over a store, and in that case it writes to neither.
-        ensures keeps { IfOk result (λ m. BothTell A.Bank B.Bank →
-            loses_store live_mark.now (A.now first) (B.now second) ≡ false) }
-        ensures blank { IfErr result (λ back. back.cause ≡ OpenFault.Blank → BothTell A.Bank B.Bank →
-            loses_store live_mark.now (A.now first) (B.now second) ≡ true) }
-        ensures untouched { IfErr result (λ back. back.cause ≡ OpenFault.Blank → BothTell A.Bank B.Bank →
-            (A.now back.first ≡ A.now first) × (B.now back.second ≡ B.now second)) }
+        ensures keeps { IfOk result (λ m. BothTell A.Bank B.Bank → loses_store live_mark.now (A.now first) (B.now second) ≡ false) }
 
-        ensures back_bytes { IfErr result (λ back. BothTell A.Bank B.Bank →
-            pair_of (A.now back.first) (B.now back.second) ≡ pair_of (A.now first) (B.now second)) }
-        ensures back_moments { IfErr result (λ back. BothTellMoments A.Bank B.Bank → (image : List ℕ) →
-            LeftSince A.Bank B.Bank (record { first = back.first; second = back.second; past = back.past.items }) 0 image →
-            image ≡ pair_of (A.now first) (B.now second)) }
-        ensures back_sizes { IfErr result (λ back. A.size back.first ≡ A.size first × B.size back.second ≡ B.size second) }
-        ensures counted { IfErr result (λ back. CheckCounted A.Bank B.Bank (first, second)
-            (record { first = back.first; second = back.second; past = back.past.items }) back.cause) }
-        ensures last { IfErr result (λ back. back.cause ≡ OpenFault.Fault → LastReadFailed A.Bank B.Bank
-            (record { first = back.first; second = back.second; past = back.past.items })) }
+        ensures back { IfErr result (λ back. HandsBack A.Bank B.Bank (first, second) (λ image. image ≡ pair_of (A.now first) (B.now second)) (returned back)) }
+        ensures back_moments { IfErr result (λ back. LeavesSince A.Bank B.Bank (returned back)
+            (λ image. image ≡ pair_of (A.now first) (B.now second))) }
+        ensures failed { IfErr result (λ back. CheckFails A.Bank B.Bank live_mark.now (first, second) (returned back) back.cause) }
     {
         let mut banks = Banks::make(first, second);
         match banks.open_checked(alloc, live_mark) {
@@ -176,30 +133,14 @@ impl<A: Bank, B: Bank> Mirror<A, B> {
     /// All memory that it needs is taken before the first call.
     pub fn take_second(alloc: Global, first: A, second: B) -> Result<Mirror<A, B>, OpenBack<A, B>>
         requires { A.size first < B.size second }
-        ensures bytes { IfOk result (λ m. BothTell A.Bank B.Bank →
-            bytes_of A.Bank B.Bank m.pair ≡ take (length (A.now first)) (B.now second)) }
-        ensures held { IfOk result (λ m. IsHeld A.Bank B.Bank m.in_use m.pair) }
-        ensures moments { IfOk result (λ m. BothTellMoments A.Bank B.Bank → (image : List ℕ) →
-            LeftSince A.Bank B.Bank m.pair 0 image →
-            AsWas A.Bank B.Bank first second (take (length (A.now first)) (B.now second)) image) }
-        ensures opening { IfOk result (λ m. opening_of m.pair ≡ (first, second)) }
-        ensures excuse { IfOk result (λ m. IsExcused A.Bank B.Bank m.mark_failed (first, second) m.pair m.in_use) }
-        ensures mark { IfOk result (λ m. m.mark_failed ≡ true → SecondFailed A.Bank B.Bank (first, second) m.pair) }
-        ensures cleared { IfOk result (λ m. BothTell A.Bank B.Bank → m.in_use ≡ InUse.Both →
-            byte_at (length (A.now m.pair.first)) (B.now m.pair.second) ≡ 0) }
-        ensures faults { IfOk result (λ m. m.faults ≡ 0) }
-        ensures size { IfOk result (λ m. A.size m.pair.first ≡ A.size first) }
-        ensures counts { IfOk result (λ m. IsSince A.Bank B.Bank (first, second) m.pair) }
+        ensures begins { IfOk result (Begins A.Bank B.Bank (first, second) (take (length (A.now first)) (B.now second))) }
+        ensures opened { IfOk result (λ m. OpensMarked A.Bank B.Bank (first, second) m.pair m.in_use m.mark_failed) }
+        ensures moments { IfOk result (λ m. LeavesSince A.Bank B.Bank m.pair (AsWas A.Bank B.Bank first second (take (length (A.now first)) (B.now second)))) }
 
-        ensures back_bytes { IfErr result (λ back. BothTell A.Bank B.Bank →
-            AsWas A.Bank B.Bank first second (take (length (A.now first)) (B.now second))
-            (pair_of (A.now back.first) (B.now back.second))) }
-        ensures back_moments { IfErr result (λ back. BothTellMoments A.Bank B.Bank → (image : List ℕ) →
-            LeftSince A.Bank B.Bank (record { first = back.first; second = back.second; past = back.past.items }) 0 image →
-            AsWas A.Bank B.Bank first second (take (length (A.now first)) (B.now second)) image) }
-        ensures back_sizes { IfErr result (λ back. A.size back.first ≡ A.size first × B.size back.second ≡ B.size second) }
-        ensures counted { IfErr result (λ back. OpenCounted A.Bank B.Bank (first, second)
-            (record { first = back.first; second = back.second; past = back.past.items }) back.cause) }
+        ensures back { IfErr result (λ back. HandsBack A.Bank B.Bank (first, second) (AsWas A.Bank B.Bank first second (take (length (A.now first)) (B.now second))) (returned back)) }
+        ensures back_moments { IfErr result (λ back. LeavesSince A.Bank B.Bank (returned back)
+            (AsWas A.Bank B.Bank first second (take (length (A.now first)) (B.now second)))) }
+        ensures counted { IfErr result (λ back. OpenCounted A.Bank B.Bank (first, second) (returned back) back.cause) }
     {
         let mut banks = Banks::make(first, second);
         match banks.open_second(alloc) {
@@ -220,31 +161,19 @@ impl<A: Bank, B: Bank> Mirror<A, B> {
         requires room { A.size first < B.size second }
         requires fresh { alone ≡ Alone.First → BothTell A.Bank B.Bank →
             is_stale (length (A.now first)) (B.now second) ≡ false }
-        ensures bytes { IfOk result (λ m. BothTell A.Bank B.Bank →
-            bytes_of A.Bank B.Bank m.pair ≡ bytes_alone alone (A.now first) (B.now second)) }
+        ensures begins { IfOk result (Begins A.Bank B.Bank (first, second) (bytes_alone alone (A.now first) (B.now second))) }
+        ensures moments { IfOk result (λ m. LeavesSince A.Bank B.Bank m.pair (AsWas A.Bank B.Bank first second (bytes_alone alone (A.now first) (B.now second)))) }
         ensures in_use { IfOk result (λ m. m.in_use ≡ in_use_alone alone) }
         ensures held { IfOk result (λ m. IsHeld A.Bank B.Bank m.in_use m.pair) }
-        ensures moments { IfOk result (λ m. BothTellMoments A.Bank B.Bank → (image : List ℕ) →
-            LeftSince A.Bank B.Bank m.pair 0 image →
-            AsWas A.Bank B.Bank first second (bytes_alone alone (A.now first) (B.now second)) image) }
         ensures left { IfOk result (λ m. OtherIsLeft alone first second m.pair) }
-        ensures opening { IfOk result (λ m. opening_of m.pair ≡ (first, second)) }
         ensures mark { IfOk result (λ m. m.mark_failed ≡ true) }
-        ensures faults { IfOk result (λ m. m.faults ≡ 0) }
-        ensures size { IfOk result (λ m. A.size m.pair.first ≡ A.size first) }
-        ensures counts { IfOk result (λ m. IsSince A.Bank B.Bank (first, second) m.pair) }
 
-        ensures first { alone ≡ Alone.First → IfErr result (λ _. ⊥) }
-        ensures back_bytes { IfErr result (λ back. BothTell A.Bank B.Bank →
-            AsWas A.Bank B.Bank first second (bytes_alone alone (A.now first) (B.now second))
-            (pair_of (A.now back.first) (B.now back.second))) }
-        ensures back_moments { IfErr result (λ back. BothTellMoments A.Bank B.Bank → (image : List ℕ) →
-            LeftSince A.Bank B.Bank (record { first = back.first; second = back.second; past = back.past.items }) 0 image →
-            AsWas A.Bank B.Bank first second (bytes_alone alone (A.now first) (B.now second)) image) }
+        ensures back { IfErr result (λ back. HandsBack A.Bank B.Bank (first, second) (AsWas A.Bank B.Bank first second (bytes_alone alone (A.now first) (B.now second))) (returned back)) }
+        ensures back_moments { IfErr result (λ back. LeavesSince A.Bank B.Bank (returned back)
+            (AsWas A.Bank B.Bank first second (bytes_alone alone (A.now first) (B.now second)))) }
         ensures back_first { IfErr result (λ back. back.first ≡ first) }
-        ensures back_sizes { IfErr result (λ back. A.size back.first ≡ A.size first × B.size back.second ≡ B.size second) }
-        ensures counted { IfErr result (λ back. CallsCounted A.Bank B.Bank (first, second)
-            (record { first = back.first; second = back.second; past = back.past.items }) back.cause) }
+        ensures first { alone ≡ Alone.First → IfErr result (λ _. ⊥) }
+        ensures counted { IfErr result (λ back. CallsCounted A.Bank B.Bank (first, second) (returned back) back.cause) }
     {
         let mut banks = Banks::make(first, second);
         match banks.leave_out(alone) {
@@ -356,19 +285,13 @@ impl<A: Bank, B: Bank> Bank for Mirror<A, B> {
         ensures done { OnOk result (Still faults_of (stops_in A.Bank B.Bank) self.old self.new) }
         ensures failed { OnErr result (RoseAlone faults_of (stops_in A.Bank B.Bank) self.old self.new) }
         ensures fault_count { self.old.faults ≤ self.new.faults }
-        ensures stop_count { stops_in A.Bank B.Bank self.old ≤ stops_in A.Bank B.Bank self.new }
         ensures told { ⊥ → ⊥ }
         ensures bank_calls { ⊥ → [] ≡ read at (length into.old) ∷ [] }
+        ensures rules { KeepsRules A.Bank B.Bank self.old self.new }
+        ensures why { OnErr result (FailsFor A.Bank B.Bank self.old self.new) }
 
-        // It fails only where one of the two failed in this call, and one that is out had its cause since the opening.
-        ensures fault { OnErr result (OneFailed A.Bank B.Bank (self.old.pair.first, self.old.pair.second) self.new.pair) }
-        ensures cause { OnErr result (MayFail A.Bank B.Bank self.new.mark_failed (opening_of self.new.pair) self.new.pair) }
-        ensures opening { SameOpening self.old self.new }
-        ensures out { LeavesOut self.old.in_use self.old.pair self.new.pair self.new.in_use }
-
-        // It puts no bank out, and the mark stays unread only where the last call was a read of it that failed.
+        // It puts no bank out.
         ensures stays { (self.old.in_use ≡ InUse.Unread → ⊥) → self.new.in_use ≡ self.old.in_use }
-        ensures last { self.new.in_use ≡ InUse.Unread → LastReadFailed A.Bank B.Bank self.new.pair }
     {
         let end = self.banks.read(self.in_use, at, into);
         self.in_use = end.in_use;
@@ -387,20 +310,12 @@ impl<A: Bank, B: Bank> Bank for Mirror<A, B> {
         ensures size { A.size self.new.pair.first ≡ A.size self.old.pair.first }
         ensures counted { Counted faults_of (stops_in A.Bank B.Bank) self.old self.new result }
         ensures fault_count { self.old.faults ≤ self.new.faults }
-        ensures stop_count { stops_in A.Bank B.Bank self.old ≤ stops_in A.Bank B.Bank self.new }
         ensures told { ⊥ → ⊥ }
         ensures bank_calls { ⊥ → [] ≡ write at bytes.now ∷ [] }
+        ensures rules { KeepsRules A.Bank B.Bank self.old self.new }
+        ensures why { result ≡ Written.Failed → FailsFor A.Bank B.Bank self.old self.new }
 
-        // It fails only where one of the two failed in this call, and one that is out had its cause since the opening.
-        ensures fault { result ≡ Written.Failed →
-            OneFailed A.Bank B.Bank (self.old.pair.first, self.old.pair.second) self.new.pair }
-        ensures cause { result ≡ Written.Failed →
-            MayFail A.Bank B.Bank self.new.mark_failed (opening_of self.new.pair) self.new.pair }
-        ensures opening { SameOpening self.old self.new }
-        ensures out { LeavesOut self.old.in_use self.old.pair self.new.pair self.new.in_use }
-
-        // The mark stays unread only where the last call was a read that failed. The first is written once.
-        ensures last { self.new.in_use ≡ InUse.Unread → LastReadFailed A.Bank B.Bank self.new.pair }
+        // With both in, the first is written once.
         ensures once { self.old.in_use ≡ InUse.Both → A.tells_calls self.new.pair.first →
             A.calls self.new.pair.first ≡ write at bytes.now ∷ A.calls self.old.pair.first }
     {

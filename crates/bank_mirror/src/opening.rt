@@ -1,13 +1,9 @@
 //! An opening of two banks as one: afterwards both hold the same, or one of them is out.
 
 ghost use Rattle.std.specs.Prelude.{◌≡◌, true, false, length, IfOk, IfErr};
-ghost use Rattle.tbl_kinds.specs.Numbers.{byte_at};
-ghost use Rattle.bank_mirror.specs.Pairs.{BothTell, BothTellMoments, bytes_of, front_of, is_marked, SameBytes};
-ghost use Rattle.bank_mirror.specs.Moments.{Leaves};
-ghost use Rattle.bank_mirror.specs.Counts.{GoesOn, SecondFailed};
-ghost use Rattle.bank_mirror.specs.LastCalls.{LastReadFailed};
-ghost use Rattle.bank_mirror.specs.BanksInUse.{IsHeld, IsExcused};
-ghost use Rattle.bank_mirror.specs.Openings.{OpenCounted, CallsCounted};
+ghost use Rattle.bank_mirror.specs.Pairs.{BothTell, bytes_of, front_of, is_marked};
+ghost use Rattle.bank_mirror.specs.Kept.{HoldsOnly, Keeps};
+ghost use Rattle.bank_mirror.specs.Openings.{Opens, OpensMarked, OpensByMark, CallsFail, OpenFails};
 
 use crate::banks::Banks;
 use crate::copies::PIECE;
@@ -55,22 +51,9 @@ pub(crate) struct Opened {
 impl<A: Bank, B: Bank> Banks<A, B> {
     /// Makes both hold what they hold together. All memory that it needs is taken before the first call.
     pub(crate) fn open(&mut self, alloc: Global) -> Result<Opened, OpenFault>
-        ensures held { IfOk result (λ opened. IsHeld A.Bank B.Bank opened.in_use self.new) }
-        ensures bytes { BothTell A.Bank B.Bank → bytes_of A.Bank B.Bank self.new ≡ bytes_of A.Bank B.Bank self.old }
-        ensures moments { BothTellMoments A.Bank B.Bank → Leaves A.Bank B.Bank self.old self.new
-            (λ image. image ≡ bytes_of A.Bank B.Bank self.old) }
-        ensures excuse { IfOk result (λ opened.
-            IsExcused A.Bank B.Bank opened.mark_failed (self.old.first, self.old.second) self.new opened.in_use) }
-        ensures mark { IfOk result (λ opened. opened.mark_failed ≡ true →
-            SecondFailed A.Bank B.Bank (self.old.first, self.old.second) self.new) }
-        ensures unmarked { IfOk result (λ opened. BothTell A.Bank B.Bank →
-            is_marked A.Bank B.Bank self.old ≡ false → opened.mark_failed ≡ false) }
-        ensures cleared { IfOk result (λ opened. BothTell A.Bank B.Bank →
-            is_marked A.Bank B.Bank self.old ≡ true → opened.in_use ≡ InUse.Both →
-            byte_at (length (A.now self.new.first)) (B.now self.new.second) ≡ 0) }
-        ensures counted { IfErr result (OpenCounted A.Bank B.Bank (self.old.first, self.old.second) self.new) }
-        ensures last { IfErr result (λ fault. fault ≡ OpenFault.Fault → LastReadFailed A.Bank B.Bank self.new) }
-        ensures goes_on { GoesOn A.Bank B.Bank self.old self.new }
+        ensures opened { IfOk result (λ opened. Opens A.Bank B.Bank (self.old.first, self.old.second) self.new opened.in_use opened.mark_failed) }
+        ensures failed { IfErr result (OpenFails A.Bank B.Bank (self.old.first, self.old.second) self.new) }
+        ensures holds { HoldsOnly A.Bank B.Bank self.old self.new (λ image. image ≡ bytes_of A.Bank B.Bank self.old) }
     {
         let mut buffer = vec![in alloc; 0; PIECE as usize]?;
         self.agree(&mut buffer)
@@ -79,22 +62,9 @@ impl<A: Bank, B: Bank> Banks<A, B> {
     /// Makes both hold what they hold together, by way of a buffer.
     pub(crate) fn agree(&mut self, buffer: &mut [u8]) -> Result<Opened, OpenFault>
         requires { length buffer.old ≡ PIECE }
-        ensures held { IfOk result (λ opened. IsHeld A.Bank B.Bank opened.in_use self.new) }
-        ensures bytes { BothTell A.Bank B.Bank → bytes_of A.Bank B.Bank self.new ≡ bytes_of A.Bank B.Bank self.old }
-        ensures moments { BothTellMoments A.Bank B.Bank → Leaves A.Bank B.Bank self.old self.new
-            (λ image. image ≡ bytes_of A.Bank B.Bank self.old) }
-        ensures excuse { IfOk result (λ opened.
-            IsExcused A.Bank B.Bank opened.mark_failed (self.old.first, self.old.second) self.new opened.in_use) }
-        ensures mark { IfOk result (λ opened. opened.mark_failed ≡ true →
-            SecondFailed A.Bank B.Bank (self.old.first, self.old.second) self.new) }
-        ensures unmarked { IfOk result (λ opened. BothTell A.Bank B.Bank →
-            is_marked A.Bank B.Bank self.old ≡ false → opened.mark_failed ≡ false) }
-        ensures cleared { IfOk result (λ opened. BothTell A.Bank B.Bank →
-            is_marked A.Bank B.Bank self.old ≡ true → opened.in_use ≡ InUse.Both →
-            byte_at (length (A.now self.new.first)) (B.now self.new.second) ≡ 0) }
-        ensures counted { IfErr result (CallsCounted A.Bank B.Bank (self.old.first, self.old.second) self.new) }
-        ensures last { IfErr result (λ fault. fault ≡ OpenFault.Fault → LastReadFailed A.Bank B.Bank self.new) }
-        ensures goes_on { GoesOn A.Bank B.Bank self.old self.new }
+        ensures opened { IfOk result (λ opened. Opens A.Bank B.Bank (self.old.first, self.old.second) self.new opened.in_use opened.mark_failed) }
+        ensures failed { IfErr result (CallsFail A.Bank B.Bank (self.old.first, self.old.second) self.new) }
+        ensures holds { HoldsOnly A.Bank B.Bank self.old self.new (λ image. image ≡ bytes_of A.Bank B.Bank self.old) }
     {
         match self.first_is_stale() {
             Ok(true) => self.copy_back(buffer),
@@ -107,16 +77,9 @@ impl<A: Bank, B: Bank> Banks<A, B> {
     fn copy_over(&mut self, buffer: &mut [u8]) -> Result<Opened, OpenFault>
         requires buffer { length buffer.old ≡ PIECE }
         requires fresh { BothTell A.Bank B.Bank → is_marked A.Bank B.Bank self.old ≡ false }
-        ensures held { IfOk result (λ opened. IsHeld A.Bank B.Bank opened.in_use self.new) }
-        ensures bytes { BothTell A.Bank B.Bank → bytes_of A.Bank B.Bank self.new ≡ A.now self.old.first }
-        ensures moments { BothTellMoments A.Bank B.Bank → Leaves A.Bank B.Bank self.old self.new
-            (λ image. image ≡ A.now self.old.first) }
-        ensures excuse { IfOk result (λ opened.
-            IsExcused A.Bank B.Bank opened.mark_failed (self.old.first, self.old.second) self.new opened.in_use) }
-        ensures mark { IfOk result (λ opened. opened.mark_failed ≡ false) }
-        ensures counted { IfErr result (CallsCounted A.Bank B.Bank (self.old.first, self.old.second) self.new) }
-        ensures last { IfErr result (λ fault. fault ≡ OpenFault.Fault → LastReadFailed A.Bank B.Bank self.new) }
-        ensures goes_on { GoesOn A.Bank B.Bank self.old self.new }
+        ensures opened { IfOk result (λ opened. Opens A.Bank B.Bank (self.old.first, self.old.second) self.new opened.in_use opened.mark_failed) }
+        ensures failed { IfErr result (CallsFail A.Bank B.Bank (self.old.first, self.old.second) self.new) }
+        ensures holds { HoldsOnly A.Bank B.Bank self.old self.new (λ image. image ≡ A.now self.old.first) }
     {
         match self.copy_to_second(buffer) {
             Ok(Written::Done) => Ok(Opened {
@@ -136,19 +99,9 @@ impl<A: Bank, B: Bank> Banks<A, B> {
     fn copy_back(&mut self, buffer: &mut [u8]) -> Result<Opened, OpenFault>
         requires buffer { length buffer.old ≡ PIECE }
         requires stale { BothTell A.Bank B.Bank → is_marked A.Bank B.Bank self.old ≡ true }
-        ensures held { IfOk result (λ opened. IsHeld A.Bank B.Bank opened.in_use self.new) }
-        ensures bytes { BothTell A.Bank B.Bank → bytes_of A.Bank B.Bank self.new ≡ front_of A.Bank B.Bank self.old }
-        ensures moments { BothTellMoments A.Bank B.Bank → Leaves A.Bank B.Bank self.old self.new
-            (λ image. image ≡ front_of A.Bank B.Bank self.old) }
-        ensures excuse { IfOk result (λ opened.
-            IsExcused A.Bank B.Bank opened.mark_failed (self.old.first, self.old.second) self.new opened.in_use) }
-        ensures mark { IfOk result (λ opened. opened.mark_failed ≡ true →
-            SecondFailed A.Bank B.Bank (self.old.first, self.old.second) self.new) }
-        ensures cleared { IfOk result (λ opened. BothTell A.Bank B.Bank → opened.in_use ≡ InUse.Both →
-            byte_at (length (A.now self.new.first)) (B.now self.new.second) ≡ 0) }
-        ensures counted { IfErr result (CallsCounted A.Bank B.Bank (self.old.first, self.old.second) self.new) }
-        ensures last { IfErr result (λ fault. fault ≡ OpenFault.Fault → LastReadFailed A.Bank B.Bank self.new) }
-        ensures goes_on { GoesOn A.Bank B.Bank self.old self.new }
+        ensures opened { IfOk result (λ opened. OpensMarked A.Bank B.Bank (self.old.first, self.old.second) self.new opened.in_use opened.mark_failed) }
+        ensures failed { IfErr result (CallsFail A.Bank B.Bank (self.old.first, self.old.second) self.new) }
+        ensures holds { HoldsOnly A.Bank B.Bank self.old self.new (λ image. image ≡ front_of A.Bank B.Bank self.old) }
     {
         match self.copy_to_first(buffer) {
             Ok(Written::Done) => self.clear_mark(),
@@ -164,19 +117,9 @@ impl<A: Bank, B: Bank> Banks<A, B> {
     /// Takes the mark away, where both hold the same.
     fn clear_mark(&mut self) -> Result<Opened, OpenFault>
         requires { BothTell A.Bank B.Bank → front_of A.Bank B.Bank self.old ≡ A.now self.old.first }
-        ensures held { IfOk result (λ opened. IsHeld A.Bank B.Bank opened.in_use self.new) }
-        ensures bytes { BothTell A.Bank B.Bank → bytes_of A.Bank B.Bank self.new ≡ A.now self.old.first }
-        ensures moments { BothTellMoments A.Bank B.Bank → Leaves A.Bank B.Bank self.old self.new
-            (λ image. image ≡ A.now self.old.first) }
-        ensures excuse { IfOk result (λ opened.
-            IsExcused A.Bank B.Bank opened.mark_failed (self.old.first, self.old.second) self.new opened.in_use) }
-        ensures mark { IfOk result (λ opened. opened.mark_failed ≡ true →
-            SecondFailed A.Bank B.Bank (self.old.first, self.old.second) self.new) }
-        ensures cleared { IfOk result (λ opened. BothTell A.Bank B.Bank → opened.in_use ≡ InUse.Both →
-            byte_at (length (A.now self.new.first)) (B.now self.new.second) ≡ 0) }
-        ensures counted { IfErr result (CallsCounted A.Bank B.Bank (self.old.first, self.old.second) self.new) }
-        ensures last { IfErr result (λ fault. fault ≡ OpenFault.Fault → LastReadFailed A.Bank B.Bank self.new) }
-        ensures goes_on { GoesOn A.Bank B.Bank self.old self.new }
+        ensures opened { IfOk result (λ opened. OpensMarked A.Bank B.Bank (self.old.first, self.old.second) self.new opened.in_use opened.mark_failed) }
+        ensures failed { IfErr result (CallsFail A.Bank B.Bank (self.old.first, self.old.second) self.new) }
+        ensures holds { HoldsOnly A.Bank B.Bank self.old self.new (λ image. image ≡ A.now self.old.first) }
     {
         match self.write_mark(0) {
             Written::Done => Ok(Opened {
@@ -190,16 +133,9 @@ impl<A: Bank, B: Bank> Banks<A, B> {
 
     /// Which bank is in by the mark, after a write of it that failed.
     fn open_by_mark(&mut self) -> Result<Opened, OpenFault>
-        ensures held { IfOk result (λ opened. IsHeld A.Bank B.Bank opened.in_use self.new) }
-        ensures kept { SameBytes A.Bank B.Bank self.old self.new }
-        ensures moments { BothTellMoments A.Bank B.Bank → Leaves A.Bank B.Bank self.old self.new
-            (λ image. image ≡ bytes_of A.Bank B.Bank self.old) }
-        ensures excuse { IfOk result (λ opened.
-            IsExcused A.Bank B.Bank opened.mark_failed (self.old.first, self.old.second) self.new opened.in_use) }
-        ensures out { IfOk result (λ opened. opened.in_use ≡ InUse.Both → ⊥) }
-        ensures counted { IfErr result (CallsCounted A.Bank B.Bank (self.old.first, self.old.second) self.new) }
-        ensures last { IfErr result (λ fault. fault ≡ OpenFault.Fault → LastReadFailed A.Bank B.Bank self.new) }
-        ensures goes_on { GoesOn A.Bank B.Bank self.old self.new }
+        ensures opened { IfOk result (λ opened. OpensByMark A.Bank B.Bank (self.old.first, self.old.second) self.new opened.in_use opened.mark_failed) }
+        ensures failed { IfErr result (CallsFail A.Bank B.Bank (self.old.first, self.old.second) self.new) }
+        ensures keeps { Keeps A.Bank B.Bank self.old self.new }
     {
         match self.first_is_stale() {
             Ok(true) => Ok(Opened {

@@ -4,12 +4,11 @@ ghost use Rattle.std.specs.Prelude.{◌≡◌, ◌+◌, ◌≤◌, ◌∷◌, fa
 ghost use Rattle.tbl_kinds.specs.Numbers.{patched};
 ghost use Rattle.tbl_outside.specs.Bank.{Torn};
 ghost use Rattle.tbl_outside.specs.BankCalls.{write};
-ghost use Rattle.tbl_outside.specs.Counts.{Rose};
-ghost use Rattle.bank_mirror.specs.Pairs.{BothTell, BothTellMoments, bytes_of, front_of, is_marked};
-ghost use Rattle.bank_mirror.specs.Moments.{Leaves};
-ghost use Rattle.bank_mirror.specs.Counts.{GoesOn, WriteCounted};
+ghost use Rattle.bank_mirror.specs.Pairs.{BothTell, bytes_of, front_of, is_marked};
+ghost use Rattle.bank_mirror.specs.Counts.{FirstFailed, SecondFailed, WriteCounted};
 ghost use Rattle.bank_mirror.specs.LastCalls.{LastReadFailed};
-ghost use Rattle.bank_mirror.specs.BanksInUse.{IsHeld, KeepsExcuse, LeavesOut, ExcusesMarked, HasCause};
+ghost use Rattle.bank_mirror.specs.BanksInUse.{IsHeld, ExcusesMarked, HasCause};
+ghost use Rattle.bank_mirror.specs.Kept.{HoldsOnly, Writes, LeavesInUse};
 
 use crate::banks::{Banks, STALE};
 use crate::in_use::InUse;
@@ -27,21 +26,12 @@ impl<A: Bank, B: Bank> Banks<A, B> {
     pub(crate) fn write(&mut self, in_use: InUse, at: u32, bytes: &[u8]) -> Ended
         requires room { at + length bytes.now ≤ A.size self.old.first }
         requires held { IsHeld A.Bank B.Bank in_use self.old }
-        ensures done { result.written ≡ Written.Done → BothTell A.Bank B.Bank →
-            bytes_of A.Bank B.Bank self.new ≡ patched (bytes_of A.Bank B.Bank self.old) at bytes.now }
-        ensures torn { BothTell A.Bank B.Bank →
-            Torn at (length bytes.now) (bytes_of A.Bank B.Bank self.old) (bytes_of A.Bank B.Bank self.new) }
-        ensures held { IsHeld A.Bank B.Bank result.in_use self.new }
-        ensures moments { BothTellMoments A.Bank B.Bank → Leaves A.Bank B.Bank self.old self.new
-            (Torn at (length bytes.now) (bytes_of A.Bank B.Bank self.old)) }
-        ensures counted { WriteCounted A.Bank B.Bank (self.old.first, self.old.second) self.new result.written }
-        ensures excuse { KeepsExcuse A.Bank B.Bank in_use self.old self.new result.in_use }
+        ensures writes { Writes A.Bank B.Bank self.old self.new at bytes.now (bytes_of A.Bank B.Bank self.old) result.written }
+        ensures holds { HoldsOnly A.Bank B.Bank self.old self.new (Torn at (length bytes.now) (bytes_of A.Bank B.Bank self.old)) }
+        ensures in_use { LeavesInUse A.Bank B.Bank in_use self.old self.new result.in_use }
         ensures cause { result.written ≡ Written.Failed → HasCause A.Bank B.Bank in_use self.old self.new }
-        ensures out { LeavesOut in_use self.old self.new result.in_use }
-        ensures last { result.in_use ≡ InUse.Unread → LastReadFailed A.Bank B.Bank self.new }
         ensures once { in_use ≡ InUse.Both → A.tells_calls self.new.first →
             A.calls self.new.first ≡ write at bytes.now ∷ A.calls self.old.first }
-        ensures goes_on { GoesOn A.Bank B.Bank self.old self.new }
     {
         match in_use {
             InUse::Both => self.write_both(at, bytes),
@@ -55,18 +45,12 @@ impl<A: Bank, B: Bank> Banks<A, B> {
     fn write_to_second(&mut self, at: u32, bytes: &[u8]) -> Ended
         requires room { at + length bytes.now ≤ A.size self.old.first }
         requires stale { BothTell A.Bank B.Bank → is_marked A.Bank B.Bank self.old ≡ true }
-        ensures done { result.written ≡ Written.Done → BothTell A.Bank B.Bank →
-            bytes_of A.Bank B.Bank self.new ≡ patched (front_of A.Bank B.Bank self.old) at bytes.now }
-        ensures torn { BothTell A.Bank B.Bank →
-            Torn at (length bytes.now) (front_of A.Bank B.Bank self.old) (bytes_of A.Bank B.Bank self.new) }
+        ensures writes { Writes A.Bank B.Bank self.old self.new at bytes.now (front_of A.Bank B.Bank self.old) result.written }
+        ensures holds { HoldsOnly A.Bank B.Bank self.old self.new (Torn at (length bytes.now) (front_of A.Bank B.Bank self.old)) }
         ensures held { IsHeld A.Bank B.Bank InUse.FirstOut self.new }
         ensures in_use { result.in_use ≡ InUse.FirstOut }
         ensures other { self.new.first ≡ self.old.first }
-        ensures moments { BothTellMoments A.Bank B.Bank → Leaves A.Bank B.Bank self.old self.new
-            (Torn at (length bytes.now) (front_of A.Bank B.Bank self.old)) }
-        ensures counted { WriteCounted A.Bank B.Bank (self.old.first, self.old.second) self.new result.written }
-        ensures failed { result.written ≡ Written.Failed → Rose (B.faults self.old.second) (B.faults self.new.second) }
-        ensures goes_on { GoesOn A.Bank B.Bank self.old self.new }
+        ensures failed { result.written ≡ Written.Failed → SecondFailed A.Bank B.Bank (self.old.first, self.old.second) self.new }
     {
         Ended {
             written: self.write_second(at, bytes),
@@ -78,18 +62,12 @@ impl<A: Bank, B: Bank> Banks<A, B> {
     fn write_to_first(&mut self, at: u32, bytes: &[u8]) -> Ended
         requires room { at + length bytes.now ≤ A.size self.old.first }
         requires fresh { BothTell A.Bank B.Bank → is_marked A.Bank B.Bank self.old ≡ false }
-        ensures done { result.written ≡ Written.Done → BothTell A.Bank B.Bank →
-            bytes_of A.Bank B.Bank self.new ≡ patched (A.now self.old.first) at bytes.now }
-        ensures torn { BothTell A.Bank B.Bank →
-            Torn at (length bytes.now) (A.now self.old.first) (bytes_of A.Bank B.Bank self.new) }
+        ensures writes { Writes A.Bank B.Bank self.old self.new at bytes.now (A.now self.old.first) result.written }
+        ensures holds { HoldsOnly A.Bank B.Bank self.old self.new (Torn at (length bytes.now) (A.now self.old.first)) }
         ensures held { IsHeld A.Bank B.Bank InUse.SecondOut self.new }
         ensures in_use { result.in_use ≡ InUse.SecondOut }
         ensures other { self.new.second ≡ self.old.second }
-        ensures moments { BothTellMoments A.Bank B.Bank → Leaves A.Bank B.Bank self.old self.new
-            (Torn at (length bytes.now) (A.now self.old.first)) }
-        ensures counted { WriteCounted A.Bank B.Bank (self.old.first, self.old.second) self.new result.written }
-        ensures failed { result.written ≡ Written.Failed → Rose (A.faults self.old.first) (A.faults self.new.first) }
-        ensures goes_on { GoesOn A.Bank B.Bank self.old self.new }
+        ensures failed { result.written ≡ Written.Failed → FirstFailed A.Bank B.Bank (self.old.first, self.old.second) self.new }
     {
         Ended {
             written: self.write_first(at, bytes),
@@ -100,19 +78,10 @@ impl<A: Bank, B: Bank> Banks<A, B> {
     /// Reads the mark back, and then writes by what it says.
     fn write_unread(&mut self, at: u32, bytes: &[u8]) -> Ended
         requires room { at + length bytes.now ≤ A.size self.old.first }
-        ensures done { result.written ≡ Written.Done → BothTell A.Bank B.Bank →
-            bytes_of A.Bank B.Bank self.new ≡ patched (bytes_of A.Bank B.Bank self.old) at bytes.now }
-        ensures torn { BothTell A.Bank B.Bank →
-            Torn at (length bytes.now) (bytes_of A.Bank B.Bank self.old) (bytes_of A.Bank B.Bank self.new) }
-        ensures held { IsHeld A.Bank B.Bank result.in_use self.new }
-        ensures moments { BothTellMoments A.Bank B.Bank → Leaves A.Bank B.Bank self.old self.new
-            (Torn at (length bytes.now) (bytes_of A.Bank B.Bank self.old)) }
-        ensures counted { WriteCounted A.Bank B.Bank (self.old.first, self.old.second) self.new result.written }
-        ensures excuse { KeepsExcuse A.Bank B.Bank InUse.Unread self.old self.new result.in_use }
+        ensures writes { Writes A.Bank B.Bank self.old self.new at bytes.now (bytes_of A.Bank B.Bank self.old) result.written }
+        ensures holds { HoldsOnly A.Bank B.Bank self.old self.new (Torn at (length bytes.now) (bytes_of A.Bank B.Bank self.old)) }
+        ensures in_use { LeavesInUse A.Bank B.Bank InUse.Unread self.old self.new result.in_use }
         ensures cause { result.written ≡ Written.Failed → HasCause A.Bank B.Bank InUse.Unread self.old self.new }
-        ensures out { LeavesOut InUse.Unread self.old self.new result.in_use }
-        ensures last { result.in_use ≡ InUse.Unread → LastReadFailed A.Bank B.Bank self.new }
-        ensures goes_on { GoesOn A.Bank B.Bank self.old self.new }
     {
         match self.first_is_stale() {
             Ok(true) => self.write_to_second(at, bytes),
@@ -128,19 +97,12 @@ impl<A: Bank, B: Bank> Banks<A, B> {
     fn write_both(&mut self, at: u32, bytes: &[u8]) -> Ended
         requires room { at + length bytes.now ≤ A.size self.old.first }
         requires held { IsHeld A.Bank B.Bank InUse.Both self.old }
-        ensures done { result.written ≡ Written.Done → BothTell A.Bank B.Bank →
-            bytes_of A.Bank B.Bank self.new ≡ patched (A.now self.old.first) at bytes.now }
-        ensures torn { BothTell A.Bank B.Bank →
-            Torn at (length bytes.now) (A.now self.old.first) (bytes_of A.Bank B.Bank self.new) }
-        ensures held { IsHeld A.Bank B.Bank result.in_use self.new }
-        ensures moments { BothTellMoments A.Bank B.Bank → Leaves A.Bank B.Bank self.old self.new
-            (Torn at (length bytes.now) (A.now self.old.first)) }
-        ensures counted { WriteCounted A.Bank B.Bank (self.old.first, self.old.second) self.new result.written }
-        ensures excuse { KeepsExcuse A.Bank B.Bank InUse.Both self.old self.new result.in_use }
+        ensures writes { Writes A.Bank B.Bank self.old self.new at bytes.now (A.now self.old.first) result.written }
+        ensures holds { HoldsOnly A.Bank B.Bank self.old self.new (Torn at (length bytes.now) (A.now self.old.first)) }
+        ensures in_use { LeavesInUse A.Bank B.Bank InUse.Both self.old self.new result.in_use }
         ensures cause { result.written ≡ Written.Failed → HasCause A.Bank B.Bank InUse.Both self.old self.new }
-        ensures last { result.in_use ≡ InUse.Unread → LastReadFailed A.Bank B.Bank self.new }
-        ensures once { A.tells_calls self.new.first → A.calls self.new.first ≡ write at bytes.now ∷ A.calls self.old.first }
-        ensures goes_on { GoesOn A.Bank B.Bank self.old self.new }
+        ensures once { A.tells_calls self.new.first →
+            A.calls self.new.first ≡ write at bytes.now ∷ A.calls self.old.first }
     {
         match self.write_first(at, bytes) {
             Written::Done => self.write_second_too(at, bytes),
@@ -158,15 +120,10 @@ impl<A: Bank, B: Bank> Banks<A, B> {
         requires fresh { BothTell A.Bank B.Bank → is_marked A.Bank B.Bank self.old ≡ false }
         requires taken { BothTell A.Bank B.Bank → A.now self.old.first ≡ patched (front_of A.Bank B.Bank self.old) at bytes.now }
         ensures other { self.new.first ≡ self.old.first }
-        ensures bytes { BothTell A.Bank B.Bank → bytes_of A.Bank B.Bank self.new ≡ A.now self.old.first }
-        ensures held { IsHeld A.Bank B.Bank result.in_use self.new }
-        ensures moments { BothTellMoments A.Bank B.Bank → Leaves A.Bank B.Bank self.old self.new
-            (λ image. image ≡ A.now self.old.first) }
+        ensures holds { HoldsOnly A.Bank B.Bank self.old self.new (λ image. image ≡ A.now self.old.first) }
+        ensures in_use { LeavesInUse A.Bank B.Bank InUse.Both self.old self.new result.in_use }
         ensures counted { WriteCounted A.Bank B.Bank (self.old.first, self.old.second) self.new result.written }
         ensures answered { (result.written ≡ Written.Failed) → ⊥ }
-        ensures excuse { KeepsExcuse A.Bank B.Bank InUse.Both self.old self.new result.in_use }
-        ensures last { result.in_use ≡ InUse.Unread → LastReadFailed A.Bank B.Bank self.new }
-        ensures goes_on { GoesOn A.Bank B.Bank self.old self.new }
     {
         match self.write_second(at, bytes) {
             Written::Done => Ended {
@@ -190,19 +147,13 @@ impl<A: Bank, B: Bank> Banks<A, B> {
         requires fresh { BothTell A.Bank B.Bank → is_marked A.Bank B.Bank self.old ≡ false }
         requires torn { BothTell A.Bank B.Bank →
             Torn at (length bytes.now) (front_of A.Bank B.Bank self.old) (A.now self.old.first) }
-        ensures done { result.written ≡ Written.Done → BothTell A.Bank B.Bank →
-            bytes_of A.Bank B.Bank self.new ≡ patched (front_of A.Bank B.Bank self.old) at bytes.now }
-        ensures torn { BothTell A.Bank B.Bank →
-            Torn at (length bytes.now) (front_of A.Bank B.Bank self.old) (bytes_of A.Bank B.Bank self.new) }
+        ensures writes { Writes A.Bank B.Bank self.old self.new at bytes.now (front_of A.Bank B.Bank self.old) result.written }
+        ensures holds { HoldsOnly A.Bank B.Bank self.old self.new (Torn at (length bytes.now) (front_of A.Bank B.Bank self.old)) }
         ensures held { IsHeld A.Bank B.Bank result.in_use self.new }
-        ensures moments { BothTellMoments A.Bank B.Bank → Leaves A.Bank B.Bank self.old self.new
-            (Torn at (length bytes.now) (front_of A.Bank B.Bank self.old)) }
-        ensures counted { WriteCounted A.Bank B.Bank (self.old.first, self.old.second) self.new result.written }
-        ensures failed { result.written ≡ Written.Failed → Rose (B.faults self.old.second) (B.faults self.new.second) }
         ensures excuse { ExcusesMarked A.Bank B.Bank self.old self.new result.in_use }
-        ensures other { self.new.first ≡ self.old.first }
         ensures last { result.in_use ≡ InUse.Unread → LastReadFailed A.Bank B.Bank self.new }
-        ensures goes_on { GoesOn A.Bank B.Bank self.old self.new }
+        ensures failed { result.written ≡ Written.Failed → SecondFailed A.Bank B.Bank (self.old.first, self.old.second) self.new }
+        ensures other { self.new.first ≡ self.old.first }
     {
         match self.write_mark(STALE) {
             Written::Done => self.write_to_second(at, bytes),

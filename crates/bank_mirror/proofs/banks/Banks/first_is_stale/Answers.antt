@@ -1,8 +1,12 @@
-use Rattle.tbl_outside.proofs.Moments.{leaves_among}
-use Rattle.bank_mirror.proofs.Bytes.{of_second-same}
+use Rattle.bank_mirror.proofs.Opened.{second_keeps}
 use Rattle.bank_mirror.proofs.banks.Banks.first_is_stale.Goals as goal
 
-pub returns-in-Err-clause-moments : goal.returns-in-Err-clause-moments
-returns-in-Err-clause-moments g c told =
-    let pair = c.args.self.now in
-    leaves_among (c.read_second.ensures.moments told) (of_second-same (g.A.Bank.now pair.first) (g.B.Bank.now pair.second))
+pub returns-in-Ok-clause-keeps : goal.returns-in-Ok-clause-keeps
+returns-in-Ok-clause-keeps g c =
+    let read = c.read_second.ensures in
+    second_keeps g.A.Bank g.B.Bank c.args.self.now c.read_second.new.self read.kept read.other read.moments read.goes_on
+
+pub returns-in-Err-clause-keeps : goal.returns-in-Err-clause-keeps
+returns-in-Err-clause-keeps g c =
+    let read = c.read_second.ensures in
+    second_keeps g.A.Bank g.B.Bank c.args.self.now c.read_second.new.self read.kept read.other read.moments read.goes_on

@@ -1,8 +1,9 @@
 use Rattle.std.proofs.Common.{inl, inr, refl, sym, subst}
 use Rattle.std.proofs.lemmas.Result.{on_err_weaker}
 use Rattle.bank_mirror.specs.declared.in_use.InUse.TheVariants.{FirstOut, SecondOut}
-use Rattle.bank_mirror.specs.BanksInUse.{KeepsExcuse, LeavesOut, HasCause}
+use Rattle.bank_mirror.specs.BanksInUse.{HasCause}
 use Rattle.bank_mirror.proofs.Excuses.{excused_on, first_fails, second_fails, first_out_too, second_out_too}
+use Rattle.bank_mirror.proofs.Opened.{read_stays}
 use Rattle.bank_mirror.proofs.banks.Banks.read.Goals as goal
 
 pub returns-in-Both-clause-failed : goal.returns-in-Both-clause-failed
@@ -22,13 +23,6 @@ returns-in-Both-clause-cause g c =
 pub returns-in-FirstOut-clause-failed : goal.returns-in-FirstOut-clause-failed
 returns-in-FirstOut-clause-failed g c = on_err_weaker c.read_from_second.result inr c.read_from_second.ensures.failed
 
-pub returns-in-FirstOut-clause-excuse : goal.returns-in-FirstOut-clause-excuse
-returns-in-FirstOut-clause-excuse g c =
-    let pair = c.args.self.now in
-    let new = c.read_from_second.new.self in
-    subst (λ in_use. KeepsExcuse g.A.Bank g.B.Bank in_use pair new FirstOut) (sym c.in-FirstOut.is)
-    (λ mark_failed opening since. excused_on g.A.Bank g.B.Bank mark_failed opening pair new FirstOut since c.read_from_second.ensures.goes_on)
-
 pub returns-in-FirstOut-clause-cause : goal.returns-in-FirstOut-clause-cause
 returns-in-FirstOut-clause-cause g c =
     let pair = c.args.self.now in
@@ -37,19 +31,12 @@ returns-in-FirstOut-clause-cause g c =
     (λ rose. subst (λ in_use. HasCause g.A.Bank g.B.Bank in_use pair new) (sym c.in-FirstOut.is)
     (λ mark_failed opening since excused.
     second_out_too g.A.Bank g.B.Bank mark_failed opening new
-    (excused_on g.A.Bank g.B.Bank mark_failed opening pair new FirstOut since c.read_from_second.ensures.goes_on excused)
+    (excused_on g.A.Bank g.B.Bank mark_failed opening pair new FirstOut since c.read_from_second.ensures.keeps.goes_on excused)
     (second_fails g.A.Bank g.B.Bank opening pair new since rose)))
     c.read_from_second.ensures.failed
 
 pub returns-in-SecondOut-clause-failed : goal.returns-in-SecondOut-clause-failed
 returns-in-SecondOut-clause-failed g c = on_err_weaker c.read_from_first.result inl c.read_from_first.ensures.failed
-
-pub returns-in-SecondOut-clause-excuse : goal.returns-in-SecondOut-clause-excuse
-returns-in-SecondOut-clause-excuse g c =
-    let pair = c.args.self.now in
-    let new = c.read_from_first.new.self in
-    subst (λ in_use. KeepsExcuse g.A.Bank g.B.Bank in_use pair new SecondOut) (sym c.in-SecondOut.is)
-    (λ mark_failed opening since. excused_on g.A.Bank g.B.Bank mark_failed opening pair new SecondOut since c.read_from_first.ensures.goes_on)
 
 pub returns-in-SecondOut-clause-cause : goal.returns-in-SecondOut-clause-cause
 returns-in-SecondOut-clause-cause g c =
@@ -59,13 +46,9 @@ returns-in-SecondOut-clause-cause g c =
     (λ rose. subst (λ in_use. HasCause g.A.Bank g.B.Bank in_use pair new) (sym c.in-SecondOut.is)
     (λ mark_failed opening since excused.
     first_out_too g.A.Bank g.B.Bank mark_failed opening new
-    (excused_on g.A.Bank g.B.Bank mark_failed opening pair new SecondOut since c.read_from_first.ensures.goes_on excused)
+    (excused_on g.A.Bank g.B.Bank mark_failed opening pair new SecondOut since c.read_from_first.ensures.keeps.goes_on excused)
     (first_fails g.A.Bank g.B.Bank opening pair new since rose)))
     c.read_from_first.ensures.failed
-
-pub returns-in-Unread-clause-excuse : goal.returns-in-Unread-clause-excuse
-returns-in-Unread-clause-excuse g c =
-    subst (λ in_use. KeepsExcuse g.A.Bank g.B.Bank in_use c.args.self.now c.read_unread.new.self c.read_unread.result.in_use) (sym c.in-Unread.is) c.read_unread.ensures.excuse
 
 pub returns-in-Unread-clause-cause : goal.returns-in-Unread-clause-cause
 returns-in-Unread-clause-cause g c =
@@ -73,14 +56,10 @@ returns-in-Unread-clause-cause g c =
     (λ cause. subst (λ in_use. HasCause g.A.Bank g.B.Bank in_use c.args.self.now c.read_unread.new.self) (sym c.in-Unread.is) cause)
     c.read_unread.ensures.cause
 
-pub returns-in-FirstOut-clause-out : goal.returns-in-FirstOut-clause-out
-returns-in-FirstOut-clause-out g c =
-    subst (λ in_use. LeavesOut in_use c.args.self.now c.read_from_second.new.self FirstOut) (sym c.in-FirstOut.is) (refl, c.read_from_second.ensures.other)
+pub returns-in-FirstOut-clause-in_use : goal.returns-in-FirstOut-clause-in_use
+returns-in-FirstOut-clause-in_use g c =
+    read_stays g.A.Bank g.B.Bank c.args.in_use FirstOut c.args.self.now c.read_from_second.new.self c.in-FirstOut.is c.read_from_second.ensures.keeps c.requires.held (refl, c.read_from_second.ensures.other) (λ is. absurd (cc is))
 
-pub returns-in-SecondOut-clause-out : goal.returns-in-SecondOut-clause-out
-returns-in-SecondOut-clause-out g c =
-    subst (λ in_use. LeavesOut in_use c.args.self.now c.read_from_first.new.self SecondOut) (sym c.in-SecondOut.is) (refl, c.read_from_first.ensures.other)
-
-pub returns-in-Unread-clause-out : goal.returns-in-Unread-clause-out
-returns-in-Unread-clause-out g c =
-    subst (λ in_use. LeavesOut in_use c.args.self.now c.read_unread.new.self c.read_unread.result.in_use) (sym c.in-Unread.is) c.read_unread.ensures.out
+pub returns-in-SecondOut-clause-in_use : goal.returns-in-SecondOut-clause-in_use
+returns-in-SecondOut-clause-in_use g c =
+    read_stays g.A.Bank g.B.Bank c.args.in_use SecondOut c.args.self.now c.read_from_first.new.self c.in-SecondOut.is c.read_from_first.ensures.keeps c.requires.held (refl, c.read_from_first.ensures.other) (λ is. absurd (cc is))

@@ -2,23 +2,13 @@ use Rattle.std.proofs.Common.{◌≡◌, inl, length, refl, subst}
 use Rattle.std.proofs.lemmas.Result.{on_err_weaker}
 use Rattle.bank_mirror.specs.Pairs.{Pair}
 use Rattle.bank_mirror.specs.Moments.{OfFirst, Leaves}
-use Rattle.bank_mirror.proofs.Moments.{TellsMoments, first_called}
+use Rattle.bank_mirror.proofs.Moments.{told_moments, first_called}
 use Rattle.bank_mirror.proofs.banks.Banks.read_first.Goals as goal
 
 pub returns-clause-moments : goal.returns-clause-moments
 returns-clause-moments g c told =
-    let one : TellsMoments g.A.Bank = record {
-      counts_now = λ bank t image le may. g.met.A.Bank.counts_now bank t image told.0 le may;
-      leaves_now = λ bank. g.met.A.Bank.leaves_now bank told.0;
-      leaves_only_now = λ bank image may. g.met.A.Bank.leaves_only_now bank image told.0 may;
-      only_now = λ bank image left. g.met.A.Bank.only_now bank image told.0 left;
-    } in
-    let two : TellsMoments g.B.Bank = record {
-      counts_now = λ bank t image le may. g.met.B.Bank.counts_now bank t image told.1 le may;
-      leaves_now = λ bank. g.met.B.Bank.leaves_now bank told.1;
-      leaves_only_now = λ bank image may. g.met.B.Bank.leaves_only_now bank image told.1 may;
-      only_now = λ bank image left. g.met.B.Bank.only_now bank image told.1 left;
-    } in
+    let one = told_moments g.A.Bank told.0 g.met.A.Bank.counts_now g.met.A.Bank.leaves_now g.met.A.Bank.leaves_only_now g.met.A.Bank.only_now in
+    let two = told_moments g.B.Bank told.1 g.met.B.Bank.counts_now g.met.B.Bank.leaves_now g.met.B.Bank.leaves_only_now g.met.B.Bank.only_now in
     let old : Pair _ _ = record { first = c.self.inside.first; second = c.self.inside.second; past = c.self.inside.past.items } in
     let new : Pair _ _ = record { first = c.read_at-read.new.self; second = c.self.inside.second; past = c.and-past.result.items } in
     subst (λ (was : Pair _ _). Leaves g.A.Bank g.B.Bank was new (OfFirst (λ image. image ≡ g.A.Bank.now was.first) (g.B.Bank.now was.second))) c.self.view_is

@@ -1,16 +1,24 @@
-use Rattle.std.proofs.Common.{ℕ, sym, ◌∙◌, subst}
+use Rattle.std.proofs.Common.{◌≡◌, ℕ, length, take, sym, ◌∙◌, ap, subst}
 use Rattle.tbl_outside.specs.Bank.{Torn}
 use Rattle.tbl_outside.proofs.Moments.{leaves_among}
 use Rattle.bank_mirror.specs.Moments.{OfSecond}
 use Rattle.bank_mirror.proofs.Bytes.{of_second-mark}
 use Rattle.bank_mirror.proofs.banks.Banks.write_mark.Goals as goal
 
-pub returns-clause-moments : goal.returns-clause-moments
-returns-clause-moments g c told =
+pub returns-clause-moves : goal.returns-clause-moves
+returns-clause-moves g c =
+    let a = g.A.Bank in
+    let b = g.B.Bank in
     let pair = c.args.self.now in
-    let first = g.A.Bank.now pair.first in
-    let second = g.B.Bank.now pair.second in
+    let call = c.write_second.ensures in
     let one = g.met.A.Bank in
-    let place = c.size-place.ensures.size ∙ sym (one.whole pair.first (one.tells_both told.0)) in
-    leaves_among (c.write_second.ensures.moments told)
-    (λ image of. of_second-mark first second image (subst (λ (at : ℕ). OfSecond first (Torn at 1 second) image) place of))
+    record {
+      front = λ told.
+          ap (λ bank. take (length (a.now bank)) (b.now c.write_second.new.self.second)) call.other
+          ∙ subst (λ (at : ℕ). take at (b.now c.write_second.new.self.second) ≡ take at (b.now pair.second)) (c.size-place.ensures.size ∙ sym (one.whole pair.first told.0)) (call.torn told.1).before;
+      other = call.other;
+      moments = λ told. leaves_among (call.moments told)
+          (λ image of. of_second-mark (a.now pair.first) (b.now pair.second) image
+          (subst (λ (at : ℕ). OfSecond (a.now pair.first) (Torn at 1 (b.now pair.second)) image) (c.size-place.ensures.size ∙ sym (one.whole pair.first (one.tells_both told.0))) of));
+      goes_on = call.goes_on;
+    }

@@ -1,52 +1,47 @@
-use Rattle.std.proofs.Common.{inl, inr, ⊎_elim, List, ℕ, length, sym, ◌∙◌, ap, subst}
+use Rattle.std.proofs.Common.{◌≡◌, List, ℕ, length, refl, sym, subst}
 use Rattle.tbl_outside.specs.Bank.{Torn}
-use Rattle.tbl_outside.proofs.Moments.{leaves_among, goes_on}
-use Rattle.bank_mirror.specs.Pairs.{BothTell, bytes_of, front_of}
-use Rattle.bank_mirror.proofs.Bytes.{torn_either, pair-either}
+use Rattle.bank_mirror.specs.Pairs.{BothTell, BothTellMoments, bytes_of, front_of}
+use Rattle.bank_mirror.proofs.Opened.{keeps_holds, holds_twice, mark_torn}
 use Rattle.bank_mirror.proofs.banks.Banks.write_marked.Goals as goal
 
-pub returns-in-Done-clause-moments : goal.returns-in-Done-clause-moments
-returns-in-Done-clause-moments g c told =
-    let both : BothTell g.A.Bank g.B.Bank = (g.met.A.Bank.tells_both told.0, g.met.B.Bank.tells_both told.1) in
-    let pair = c.args.self.now in
-    let at = c.args.at in
-    let count = length c.args.bytes.now in
-    let front = front_of g.A.Bank g.B.Bank pair in
-    goes_on
-    (leaves_among (c.write_mark.ensures.moments told) (λ image. torn_either at count front (g.A.Bank.now pair.first) image (c.requires.torn both)))
-    (c.write_to_second.ensures.moments told)
-    (λ image torn. subst (λ (l : List ℕ). Torn at count l image) (c.write_mark.ensures.front both) torn)
-
-pub returns-in-Failed-clause-moments : goal.returns-in-Failed-clause-moments
-returns-in-Failed-clause-moments g c told =
-    let both : BothTell g.A.Bank g.B.Bank = (g.met.A.Bank.tells_both told.0, g.met.B.Bank.tells_both told.1) in
-    let pair = c.args.self.now in
+pub returns-in-Done-clause-holds : goal.returns-in-Done-clause-holds
+returns-in-Done-clause-holds g c =
+    let a = g.A.Bank in
+    let b = g.B.Bank in
+    let both : BothTellMoments a b → BothTell a b = λ told. (g.met.A.Bank.tells_both told.0, g.met.B.Bank.tells_both told.1) in
+    let old = c.args.self.now in
     let mid = c.write_mark.new.self in
     let at = c.args.at in
     let count = length c.args.bytes.now in
-    let front = front_of g.A.Bank g.B.Bank pair in
-    let first = g.A.Bank.now pair.first in
-    let marked = c.write_mark.ensures in
-    let mid_is = torn_either at count front first (bytes_of g.A.Bank g.B.Bank mid) (c.requires.torn both)
-    (⊎_elim (λ is. inl (is ∙ ap g.A.Bank.now marked.other)) (λ is. inr (is ∙ marked.front both)) (pair-either (g.A.Bank.now mid.first) (g.B.Bank.now mid.second))) in
-    goes_on
-    (leaves_among (marked.moments told) (λ image. torn_either at count front first image (c.requires.torn both)))
-    (c.in_use_by_mark.ensures.moments told)
-    (λ image is. subst (Torn at count front) (sym is) mid_is)
+    let before = mark_torn a b both old mid at count c.requires.torn c.write_mark.ensures.moves in
+    holds_twice a b both old mid c.write_to_second.new.self (Torn at count (front_of a b old)) (Torn at count (front_of a b mid)) before c.write_to_second.ensures.holds
+    (λ told image. subst (λ (l : List ℕ). Torn at count l image) (c.write_mark.ensures.moves.front told))
 
-pub returns-in-Stopped-clause-moments : goal.returns-in-Stopped-clause-moments
-returns-in-Stopped-clause-moments g c told =
-    let both : BothTell g.A.Bank g.B.Bank = (g.met.A.Bank.tells_both told.0, g.met.B.Bank.tells_both told.1) in
-    let pair = c.args.self.now in
+pub returns-in-Failed-clause-holds : goal.returns-in-Failed-clause-holds
+returns-in-Failed-clause-holds g c =
+    let a = g.A.Bank in
+    let b = g.B.Bank in
+    let both : BothTellMoments a b → BothTell a b = λ told. (g.met.A.Bank.tells_both told.0, g.met.B.Bank.tells_both told.1) in
+    let old = c.args.self.now in
     let mid = c.write_mark.new.self in
     let at = c.args.at in
     let count = length c.args.bytes.now in
-    let front = front_of g.A.Bank g.B.Bank pair in
-    let first = g.A.Bank.now pair.first in
-    let marked = c.write_mark.ensures in
-    let mid_is = torn_either at count front first (bytes_of g.A.Bank g.B.Bank mid) (c.requires.torn both)
-    (⊎_elim (λ is. inl (is ∙ ap g.A.Bank.now marked.other)) (λ is. inr (is ∙ marked.front both)) (pair-either (g.A.Bank.now mid.first) (g.B.Bank.now mid.second))) in
-    goes_on
-    (leaves_among (marked.moments told) (λ image. torn_either at count front first image (c.requires.torn both)))
-    (c.in_use_by_mark-in-Stopped.ensures.moments told)
-    (λ image is. subst (Torn at count front) (sym is) mid_is)
+    let before = mark_torn a b both old mid at count c.requires.torn c.write_mark.ensures.moves in
+    holds_twice a b both old mid c.in_use_by_mark.new.self (Torn at count (front_of a b old)) (λ image. image ≡ bytes_of a b mid) before
+    (keeps_holds a b mid c.in_use_by_mark.new.self (λ image. image ≡ bytes_of a b mid) refl c.in_use_by_mark.ensures.keeps)
+    (λ told image is. subst (Torn at count (front_of a b old)) (sym is) (before.bytes told))
+
+pub returns-in-Stopped-clause-holds : goal.returns-in-Stopped-clause-holds
+returns-in-Stopped-clause-holds g c =
+    let a = g.A.Bank in
+    let b = g.B.Bank in
+    let both : BothTellMoments a b → BothTell a b = λ told. (g.met.A.Bank.tells_both told.0, g.met.B.Bank.tells_both told.1) in
+    let old = c.args.self.now in
+    let mid = c.write_mark.new.self in
+    let at = c.args.at in
+    let count = length c.args.bytes.now in
+    let before = mark_torn a b both old mid at count c.requires.torn c.write_mark.ensures.moves in
+    let new = c.in_use_by_mark-in-Stopped.new.self in
+    holds_twice a b both old mid new (Torn at count (front_of a b old)) (λ image. image ≡ bytes_of a b mid) before
+    (keeps_holds a b mid new (λ image. image ≡ bytes_of a b mid) refl c.in_use_by_mark-in-Stopped.ensures.keeps)
+    (λ told image is. subst (Torn at count (front_of a b old)) (sym is) (before.bytes told))

@@ -1,11 +1,12 @@
 use Rattle.std.proofs.Common.{length}
-use Rattle.tbl_outside.proofs.Moments.{leaves_among}
-use Rattle.bank_mirror.proofs.Bytes.{of_first-fresh}
+use Rattle.bank_mirror.specs.Pairs.{BothTell, BothTellMoments}
+use Rattle.bank_mirror.proofs.Opened.{first_torn}
 use Rattle.bank_mirror.proofs.banks.Banks.write_to_first.Goals as goal
 
-pub returns-clause-moments : goal.returns-clause-moments
-returns-clause-moments g c told =
-    let pair = c.args.self.now in
-    let fresh = c.requires.fresh (g.met.A.Bank.tells_both told.0, g.met.B.Bank.tells_both told.1) in
-    leaves_among (c.write_first.ensures.moments told)
-    (λ image of. of_first-fresh c.args.at (length c.args.bytes.now) (g.A.Bank.now pair.first) (g.B.Bank.now pair.second) image fresh of)
+pub returns-clause-holds : goal.returns-clause-holds
+returns-clause-holds g c =
+    let a = g.A.Bank in
+    let b = g.B.Bank in
+    let both : BothTellMoments a b → BothTell a b = λ told. (g.met.A.Bank.tells_both told.0, g.met.B.Bank.tells_both told.1) in
+    let call = c.write_first.ensures in
+    first_torn a b both c.args.self.now c.write_first.new.self c.args.at (length c.args.bytes.now) c.requires.fresh call.torn call.other call.moments call.goes_on

@@ -1,50 +1,42 @@
-use Rattle.std.proofs.Common.{◌+◌, ◌≤◌, length, take, ◌∙◌, ap, arith}
-use Rattle.tbl_outside.proofs.Moments.{leaves_among}
-use Rattle.bank_mirror.specs.Pairs.{BothTell, is_stale, pair_of}
-use Rattle.bank_mirror.proofs.Bytes.{mark_kept, front-patched, pair-stale, of_second-stale}
+use Rattle.std.proofs.Common.{◌+◌, ◌≤◌, length, take, ◌∙◌, arith}
+use Rattle.bank_mirror.specs.Pairs.{BothTell}
+use Rattle.bank_mirror.proofs.Bytes.{front-patched, pair-stale}
+use Rattle.bank_mirror.proofs.Excuses.{second_counted}
+use Rattle.bank_mirror.proofs.Opened.{second_torn, mark_stays}
 use Rattle.bank_mirror.proofs.banks.Banks.write_to_second.Goals as goal
 
-pub returns-clause-done : goal.returns-clause-done
-returns-clause-done g c done told =
-    let pair = c.args.self.now in
-    let first = g.A.Bank.now pair.first in
-    let second = g.B.Bank.now pair.second in
+pub returns-clause-writes : goal.returns-clause-writes
+returns-clause-writes g c =
+    let a = g.A.Bank in
+    let b = g.B.Bank in
+    let old = c.args.self.now in
+    let new = c.write_second.new.self in
     let call = c.write_second.ensures in
-    let fits : c.args.at + length c.args.bytes.now ≤ length first = omega (arith, g.met.A.Bank.whole pair.first told.0, c.requires.room) in
-    let within : length first ≤ length second = omega (arith, g.met.A.Bank.whole pair.first told.0, g.met.B.Bank.whole pair.second told.1, call.larger) in
-    let stale = mark_kept c.args.at (length c.args.bytes.now) (length first) second (g.B.Bank.now c.write_second.new.self.second) (call.torn told.1) fits ∙ c.requires.stale told in
-    ap (λ bank. pair_of (g.A.Bank.now bank) (g.B.Bank.now c.write_second.new.self.second)) call.other
-    ∙ pair-stale first (g.B.Bank.now c.write_second.new.self.second) stale
-    ∙ ap (take (length first)) (call.done done told.1)
-    ∙ front-patched (length first) c.args.at second c.args.bytes.now fits within
-
-pub returns-clause-torn : goal.returns-clause-torn
-returns-clause-torn g c told =
-    let pair = c.args.self.now in
-    let first = g.A.Bank.now pair.first in
-    let second = g.B.Bank.now pair.second in
-    let call = c.write_second.ensures in
-    let fits : c.args.at + length c.args.bytes.now ≤ length first = omega (arith, g.met.A.Bank.whole pair.first told.0, c.requires.room) in
-    of_second-stale c.args.at (length c.args.bytes.now) first second _ fits (c.requires.stale told)
-    (g.B.Bank.now c.write_second.new.self.second, call.torn told.1, ap (λ bank. pair_of (g.A.Bank.now bank) (g.B.Bank.now c.write_second.new.self.second)) call.other)
+    let at = c.args.at in
+    let count = length c.args.bytes.now in
+    let fits : BothTell a b → at + count ≤ length (a.now old.first) = λ told. omega (arith, g.met.A.Bank.whole old.first told.0, c.requires.room) in
+    record {
+      done = λ done told.
+          let within : length (a.now old.first) ≤ length (b.now old.second) = omega (arith, g.met.A.Bank.whole old.first told.0, g.met.B.Bank.whole old.second told.1, call.larger) in
+          pair-stale (a.now new.first) (b.now new.second) (mark_stays a b old new at count fits call.torn call.other told ∙ c.requires.stale told)
+          ∙ (λ i. take (length (a.now (call.other i))) (call.done done told.1 i))
+          ∙ front-patched (length (a.now old.first)) at (b.now old.second) c.args.bytes.now (fits told) within;
+      counted = second_counted a b old new c.write_second.result call.other call.counted;
+    }
 
 pub returns-clause-held : goal.returns-clause-held
-returns-clause-held g c told =
-    let pair = c.args.self.now in
-    let first = g.A.Bank.now pair.first in
-    let second = g.B.Bank.now pair.second in
-    let call = c.write_second.ensures in
-    let fits : c.args.at + length c.args.bytes.now ≤ length first = omega (arith, g.met.A.Bank.whole pair.first told.0, c.requires.room) in
-    ap (λ bank. is_stale (length (g.A.Bank.now bank)) (g.B.Bank.now c.write_second.new.self.second)) call.other
-    ∙ mark_kept c.args.at (length c.args.bytes.now) (length first) second (g.B.Bank.now c.write_second.new.self.second) (call.torn told.1) fits
-    ∙ c.requires.stale told
+returns-clause-held g c =
+    let a = g.A.Bank in
+    let old = c.args.self.now in
+    let count = length c.args.bytes.now in
+    let fits : BothTell a g.B.Bank → c.args.at + count ≤ length (a.now old.first) = λ told. omega (arith, g.met.A.Bank.whole old.first told.0, c.requires.room) in
+    λ told. mark_stays a g.B.Bank old c.write_second.new.self c.args.at count fits c.write_second.ensures.torn c.write_second.ensures.other told ∙ c.requires.stale told
 
-pub returns-clause-moments : goal.returns-clause-moments
-returns-clause-moments g c told =
-    let pair = c.args.self.now in
-    let first = g.A.Bank.now pair.first in
-    let second = g.B.Bank.now pair.second in
-    let both : BothTell g.A.Bank g.B.Bank = (g.met.A.Bank.tells_both told.0, g.met.B.Bank.tells_both told.1) in
-    let fits : c.args.at + length c.args.bytes.now ≤ length first = omega (arith, g.met.A.Bank.whole pair.first both.0, c.requires.room) in
-    leaves_among (c.write_second.ensures.moments told)
-    (λ image of. of_second-stale c.args.at (length c.args.bytes.now) first second image fits (c.requires.stale both) of)
+pub returns-clause-holds : goal.returns-clause-holds
+returns-clause-holds g c =
+    let a = g.A.Bank in
+    let old = c.args.self.now in
+    let call = c.write_second.ensures in
+    let count = length c.args.bytes.now in
+    let fits : BothTell a g.B.Bank → c.args.at + count ≤ length (a.now old.first) = λ told. omega (arith, g.met.A.Bank.whole old.first told.0, c.requires.room) in
+    second_torn a g.B.Bank (λ told. (g.met.A.Bank.tells_both told.0, g.met.B.Bank.tells_both told.1)) old c.write_second.new.self c.args.at count fits c.requires.stale call.torn call.other call.moments call.goes_on

@@ -1,20 +1,23 @@
-use Rattle.std.proofs.Common.{◌≡◌, List, ℕ, sym, subst}
-use Rattle.bank_mirror.specs.Pairs.{Pair, bytes_of, pair_of}
-use Rattle.bank_mirror.specs.Moments.{moment, LeftSince}
+use Rattle.std.proofs.Common.{◌≡◌, sym, subst}
+use Rattle.bank_mirror.specs.Pairs.{Pair, bytes_of}
+use Rattle.bank_mirror.specs.Begun.{LeavesSince}
+use Rattle.bank_mirror.proofs.Opened.{since_made}
 use Rattle.bank_mirror.proofs.mirror.Mirror.open.Goals as goal
 
 pub returns-in-Ok-clause-moments : goal.returns-in-Ok-clause-moments
-returns-in-Ok-clause-moments g c told =
+returns-in-Ok-clause-moments g c =
     let a = g.A.Bank in
     let b = g.B.Bank in
-    subst (λ (was : Pair _ _). (image : List ℕ) → LeftSince a b c.open.new.self (moment was) image → image ≡ bytes_of a b was) c.make-banks.ensures (c.open.ensures.moments told).each
+    subst (λ (was : Pair _ _). LeavesSince a b c.open.new.self (λ image. image ≡ bytes_of a b was)) c.make-banks.ensures
+    (since_made a b c.make-banks.result c.open.new.self c.args.first c.args.second (λ image. image ≡ bytes_of a b c.make-banks.result) c.make-banks.ensures c.open.ensures.holds.moments)
 
 pub returns-in-Err-clause-back_moments : goal.returns-in-Err-clause-back_moments
-returns-in-Err-clause-back_moments g c told =
+returns-in-Err-clause-back_moments g c =
     let a = g.A.Bank in
     let b = g.B.Bank in
     let ended = c.back_of.ensures in
     let back : Pair _ _ = record { first = c.back_of.result.first; second = c.back_of.result.second; past = c.back_of.result.past.items } in
     let same : back ≡ c.open.new.self = λ i. record { first = ended.first i; second = ended.second i; past = ended.past i } in
-    subst (λ (pair : Pair _ _). (image : List ℕ) → LeftSince a b pair 0 image → image ≡ pair_of (a.now c.args.first) (b.now c.args.second)) (sym same)
-    (subst (λ (was : Pair _ _). (image : List ℕ) → LeftSince a b c.open.new.self (moment was) image → image ≡ bytes_of a b was) c.make-banks.ensures (c.open.ensures.moments told).each)
+    subst (λ (was : Pair _ _). LeavesSince a b back (λ image. image ≡ bytes_of a b was)) c.make-banks.ensures
+    (subst (λ (pair : Pair _ _). LeavesSince a b pair (λ image. image ≡ bytes_of a b c.make-banks.result)) (sym same)
+    (since_made a b c.make-banks.result c.open.new.self c.args.first c.args.second (λ image. image ≡ bytes_of a b c.make-banks.result) c.make-banks.ensures c.open.ensures.holds.moments))
