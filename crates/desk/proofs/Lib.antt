@@ -1,0 +1,5 @@
+pub mod Asked
+pub mod Buffers
+pub mod Kits
+pub mod Quiet
+pub mod Serving

@@ -1,0 +1,6 @@
+pub mod Desk
+pub mod Limits
+pub mod Questions
+pub mod Requests
+pub mod Rooms
+pub mod Rows
