@@ -1,0 +1,4 @@
+pub mod Admission
+pub mod Asking
+pub mod Commanded
+pub mod Uplinked
