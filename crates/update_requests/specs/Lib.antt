@@ -1,0 +1,6 @@
+pub mod Activations
+pub mod Judging
+pub mod Management
+pub mod Questions
+pub mod Rooms
+pub mod Validations
