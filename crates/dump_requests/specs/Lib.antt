@@ -1,0 +1,4 @@
+pub mod Images
+pub mod Dumps
+pub mod Housekeeping
+pub mod Registry
