@@ -4,7 +4,7 @@ ghost use Rattle.std.specs.Prelude.{IfOk};
 ghost use Rattle.tbl_live.specs.Seats.{IsAppOf, IsSame};
 ghost use Rattle.live_example.specs.Flights.{AreOfBoard};
 
-use crate::desk::{Desk, Place, Stop};
+use crate::shared::{Place, Shared, Stop};
 use std::alloc::Global;
 use std::sync::Wait;
 use tbl_kinds::{Bytes, Name, Request};
@@ -36,12 +36,12 @@ pub(crate) struct Reads {
 pub(crate) fn begin_guidance<R: Wait>(
     rt: &R,
     alloc: Global,
-    desk: &Desk,
+    shared: &Shared,
     seat: &mut Place,
 ) -> Result<[Ticket; 3], Stop>
-    requires app { IsAppOf desk.now.service.of seat.old }
+    requires app { IsAppOf shared.now.service.of seat.old }
     ensures same { IsSame seat.old seat.new }
-    ensures shown { IfOk result (AreOfBoard desk.now.board) }
+    ensures shown { IfOk result (AreOfBoard shared.now.board) }
 {
     let mut out = Bytes::make(alloc, REPLY_LIMIT)?;
     let mut image = Bytes::make(alloc, LIMITS)?;
@@ -59,9 +59,9 @@ pub(crate) fn begin_guidance<R: Wait>(
         handle: GUIDANCE_HANDLE,
         image,
     };
-    let (_, started) = desk.call_shown(rt, seat, start, &mut out)?;
-    let (_, registered) = desk.call_shown(rt, seat, register, &mut out)?;
-    let (_, loaded) = desk.call_shown(rt, seat, load, &mut out)?;
+    let (_, started) = shared.call_shown(rt, seat, start, &mut out)?;
+    let (_, registered) = shared.call_shown(rt, seat, register, &mut out)?;
+    let (_, loaded) = shared.call_shown(rt, seat, load, &mut out)?;
     Ok([started, registered, loaded])
 }
 
@@ -70,12 +70,12 @@ pub(crate) fn begin_guidance<R: Wait>(
 pub(crate) fn begin_thermal<R: Wait>(
     rt: &R,
     alloc: Global,
-    desk: &Desk,
+    shared: &Shared,
     seat: &mut Place,
 ) -> Result<[Ticket; 2], Stop>
-    requires app { IsAppOf desk.now.service.of seat.old }
+    requires app { IsAppOf shared.now.service.of seat.old }
     ensures same { IsSame seat.old seat.new }
-    ensures shown { IfOk result (AreOfBoard desk.now.board) }
+    ensures shown { IfOk result (AreOfBoard shared.now.board) }
 {
     let mut out = Bytes::make(alloc, REPLY_LIMIT)?;
     let start = Request::Start {
@@ -84,8 +84,8 @@ pub(crate) fn begin_thermal<R: Wait>(
     let share = Request::Share {
         name: Name::of(b"GUIDE.LIMITS"),
     };
-    let (_, started) = desk.call_shown(rt, seat, start, &mut out)?;
-    let (_, shared) = desk.call_shown(rt, seat, share, &mut out)?;
+    let (_, started) = shared.call_shown(rt, seat, start, &mut out)?;
+    let (_, shared) = shared.call_shown(rt, seat, share, &mut out)?;
     Ok([started, shared])
 }
 
@@ -93,12 +93,12 @@ pub(crate) fn begin_thermal<R: Wait>(
 #[tactic(auto, using(tbl_live::proofs::SeatLemmas::fits_actor, tbl_live::proofs::SeatLemmas::same_then, tbl_live::proofs::SeatLemmas::still_app))]
 pub(crate) fn read_limits<R: Wait>(
     rt: &R,
-    desk: &Desk,
+    shared: &Shared,
     seat: &mut Place,
     handle: u16,
     out: &mut Bytes,
 ) -> Result<[u8; LIMITS], Stop>
-    requires app { IsAppOf desk.now.service.of seat.old }
+    requires app { IsAppOf shared.now.service.of seat.old }
     ensures same { IsSame seat.old seat.new }
 {
     let read = Request::Read {
@@ -106,13 +106,13 @@ pub(crate) fn read_limits<R: Wait>(
         offset: 0,
         len: LIMITS as u32,
     };
-    desk.call(rt, seat, Request::Get { handle }, out)?;
-    desk.call(rt, seat, read, out)?;
+    shared.call(rt, seat, Request::Get { handle }, out)?;
+    shared.call(rt, seat, read, out)?;
     let mut limits = [0; LIMITS];
     if let Ok(bytes) = <[u8; LIMITS]>::try_from(out.bytes()) {
         limits = bytes;
     }
-    desk.call(rt, seat, Request::Release { handle }, out)?;
+    shared.call(rt, seat, Request::Release { handle }, out)?;
     Ok(limits)
 }
 
@@ -121,24 +121,24 @@ pub(crate) fn read_limits<R: Wait>(
 pub(crate) fn read_often<R: Wait>(
     rt: &R,
     alloc: Global,
-    desk: &Desk,
+    shared: &Shared,
     seat: &mut Place,
     handle: u16,
 ) -> Result<Reads, Stop>
-    requires app { IsAppOf desk.now.service.of seat.old }
+    requires app { IsAppOf shared.now.service.of seat.old }
     ensures same { IsSame seat.old seat.new }
 {
     let mut out = Bytes::make(alloc, REPLY_LIMIT)?;
     let mut reads = Reads { whole: 0, mixed: 0 };
     'reads: for _ in 0..READS {
-        let limits = read_limits(rt, desk, seat, handle, &mut out)?;
+        let limits = read_limits(rt, shared, seat, handle, &mut out)?;
         if limits == [1; LIMITS] || limits == [2; LIMITS] {
             reads.whole = reads.whole.saturating_add(1);
         } else {
             reads.mixed = reads.mixed.saturating_add(1);
         }
         if handle == GUIDANCE_HANDLE {
-            desk.call(rt, seat, Request::Manage { handle }, &mut out)?;
+            shared.call(rt, seat, Request::Manage { handle }, &mut out)?;
         }
     }
     Ok(reads)
@@ -149,16 +149,16 @@ pub(crate) fn read_often<R: Wait>(
 pub(crate) fn read_last<R: Wait>(
     rt: &R,
     alloc: Global,
-    desk: &Desk,
+    shared: &Shared,
     seat: &mut Place,
     handle: u16,
 ) -> Result<[u8; LIMITS], Stop>
-    requires app { IsAppOf desk.now.service.of seat.old }
+    requires app { IsAppOf shared.now.service.of seat.old }
     ensures same { IsSame seat.old seat.new }
 {
     let mut out = Bytes::make(alloc, REPLY_LIMIT)?;
     if handle == GUIDANCE_HANDLE {
-        desk.call(rt, seat, Request::Manage { handle }, &mut out)?;
+        shared.call(rt, seat, Request::Manage { handle }, &mut out)?;
     }
-    read_limits(rt, desk, seat, handle, &mut out)
+    read_limits(rt, shared, seat, handle, &mut out)
 }

@@ -10,9 +10,9 @@ use crate::applications::{
     GUIDANCE_HANDLE, LIMITS, Reads, THERMAL_HANDLE, begin_guidance, begin_thermal, read_last,
     read_often,
 };
-use crate::desk::{Desk, Place, Stop};
 use crate::ground::load_new_limits;
 use crate::report::{tell_limits, tell_reads, tell_receipts};
+use crate::shared::{Place, Shared, Stop};
 use shipped_kit::FirstByte;
 use std::alloc::Global;
 use std::sync::{Mutex, Wait};
@@ -65,19 +65,19 @@ fn handle_of(place: usize) -> Option<u16> {
 fn read_in_thread<R: Wait>(
     rt: &R,
     alloc: Global,
-    desk: &Desk,
+    shared: &Shared,
     seat: &mut Place,
     place: usize,
     rooms: &Rooms,
 )
-    requires app { IsAppOf desk.now.service.of seat.old }
+    requires app { IsAppOf shared.now.service.of seat.old }
     ensures same { IsSame seat.old seat.new }
 {
     let Some(handle) = handle_of(place) else {
         return;
     };
     if let Some(room) = rooms.rooms.get(place) {
-        let reads = read_often(rt, alloc, desk, seat, handle);
+        let reads = read_often(rt, alloc, shared, seat, handle);
         *room.lock(rt) = reads.ok();
     }
 }
@@ -86,11 +86,11 @@ fn read_in_thread<R: Wait>(
 fn read_each<R: Threads + Wait + Sync>(
     rt: &R,
     alloc: Global,
-    desk: &Desk,
+    shared: &Shared,
     apps: &mut [Place],
     rooms: &Rooms,
 )
-    requires apps { All (IsAppOf desk.now.service.of) apps.old }
+    requires apps { All (IsAppOf shared.now.service.of) apps.old }
     ensures same { AreSame apps.old apps.new }
 {
     thread::for_each_mut(
@@ -98,9 +98,9 @@ fn read_each<R: Threads + Wait + Sync>(
         apps,
         THREADS,
         &|place: usize, seat: &mut Place|
-            requires { IsAppOf desk.now.service.of seat.now }
+            requires { IsAppOf shared.now.service.of seat.now }
             ensures { IsSame seat.entry.now seat.exit.now }
-        { read_in_thread(rt, alloc, desk, seat, place, rooms) },
+        { read_in_thread(rt, alloc, shared, seat, place, rooms) },
     );
 }
 
@@ -108,26 +108,26 @@ fn read_each<R: Threads + Wait + Sync>(
 fn read_beside<R: Threads + Wait + Sync>(
     rt: &R,
     alloc: Global,
-    desk: &Desk,
+    shared: &Shared,
     ground: &mut Place,
     apps: &mut [Place],
     rooms: &Rooms,
 ) -> Result<[Ticket; 4], Stop>
-    requires ground { IsOfActor desk.now.service.of 0 ground.old }
-    requires apps { All (IsAppOf desk.now.service.of) apps.old }
+    requires ground { IsOfActor shared.now.service.of 0 ground.old }
+    requires apps { All (IsAppOf shared.now.service.of) apps.old }
     ensures ground { IsSame ground.old ground.new }
     ensures apps { AreSame apps.old apps.new }
-    ensures shown { IfOk result (AreOfBoard desk.now.board) }
+    ensures shown { IfOk result (AreOfBoard shared.now.board) }
 {
     let mut loaded = Err(Stop::Refused);
     let mut load = ||
-        requires { IsOfActor desk.now.service.of 0 ground.now }
-        ensures { IsSame ground.entry.now ground.exit.now × IfOk loaded.exit (AreOfBoard desk.entry.now.board) }
-    { loaded = load_new_limits(rt, alloc, desk, ground) };
+        requires { IsOfActor shared.now.service.of 0 ground.now }
+        ensures { IsSame ground.entry.now ground.exit.now × IfOk loaded.exit (AreOfBoard shared.entry.now.board) }
+    { loaded = load_new_limits(rt, alloc, shared, ground) };
     let mut read = ||
-        requires { IsSync R.row × All (IsAppOf desk.now.service.of) apps.now }
+        requires { IsSync R.row × All (IsAppOf shared.now.service.of) apps.now }
         ensures { AreSame apps.entry.now apps.exit.now }
-    { read_each(rt, alloc, desk, apps, rooms) };
+    { read_each(rt, alloc, shared, apps, rooms) };
     join_mut(rt, &mut load, &mut read);
     loaded
 }
@@ -136,18 +136,18 @@ fn read_beside<R: Threads + Wait + Sync>(
 fn read_and_load<R: Threads + Wait + Sync>(
     rt: &R,
     alloc: Global,
-    desk: &Desk,
+    shared: &Shared,
     seats: &mut Seats<CalmBank, FirstByte, Core<CalmBank, FirstByte>>,
     rooms: &Rooms,
 ) -> Result<[Ticket; 4], Stop>
-    requires seats { AreSeats desk.now.service.of (seats.old.ground ∷ seats.old.apps.items) }
-    ensures seats { AreSeats desk.now.service.of (seats.new.ground ∷ seats.new.apps.items) }
-    ensures shown { IfOk result (AreOfBoard desk.now.board) }
+    requires seats { AreSeats shared.now.service.of (seats.old.ground ∷ seats.old.apps.items) }
+    ensures seats { AreSeats shared.now.service.of (seats.new.ground ∷ seats.new.apps.items) }
+    ensures shown { IfOk result (AreOfBoard shared.now.board) }
 {
     read_beside(
         rt,
         alloc,
-        desk,
+        shared,
         &mut seats.ground,
         seats.apps.as_mut_slice(),
         rooms,
@@ -158,47 +158,47 @@ fn read_and_load<R: Threads + Wait + Sync>(
 fn begin_first<R: Wait>(
     rt: &R,
     alloc: Global,
-    desk: &Desk,
+    shared: &Shared,
     seats: &mut Seats<CalmBank, FirstByte, Core<CalmBank, FirstByte>>,
 ) -> Result<[Ticket; 3], Stop>
-    requires seats { AreSeats desk.now.service.of (seats.old.ground ∷ seats.old.apps.items) }
-    ensures seats { AreSeats desk.now.service.of (seats.new.ground ∷ seats.new.apps.items) }
-    ensures shown { IfOk result (AreOfBoard desk.now.board) }
+    requires seats { AreSeats shared.now.service.of (seats.old.ground ∷ seats.old.apps.items) }
+    ensures seats { AreSeats shared.now.service.of (seats.new.ground ∷ seats.new.apps.items) }
+    ensures shown { IfOk result (AreOfBoard shared.now.board) }
 {
     let seat = &mut seats.apps[0];
-    begin_guidance(rt, alloc, desk, seat)
+    begin_guidance(rt, alloc, shared, seat)
 }
 
 /// Then the thermal application, by its own.
 fn begin_second<R: Wait>(
     rt: &R,
     alloc: Global,
-    desk: &Desk,
+    shared: &Shared,
     seats: &mut Seats<CalmBank, FirstByte, Core<CalmBank, FirstByte>>,
 ) -> Result<[Ticket; 2], Stop>
-    requires seats { AreSeats desk.now.service.of (seats.old.ground ∷ seats.old.apps.items) }
-    ensures seats { AreSeats desk.now.service.of (seats.new.ground ∷ seats.new.apps.items) }
-    ensures shown { IfOk result (AreOfBoard desk.now.board) }
+    requires seats { AreSeats shared.now.service.of (seats.old.ground ∷ seats.old.apps.items) }
+    ensures seats { AreSeats shared.now.service.of (seats.new.ground ∷ seats.new.apps.items) }
+    ensures shown { IfOk result (AreOfBoard shared.now.board) }
 {
     let seat = &mut seats.apps[1];
-    begin_thermal(rt, alloc, desk, seat)
+    begin_thermal(rt, alloc, shared, seat)
 }
 
 /// Each of them reads once more in the end.
 fn read_in_the_end<R: Wait>(
     rt: &R,
     alloc: Global,
-    desk: &Desk,
+    shared: &Shared,
     seats: &mut Seats<CalmBank, FirstByte, Core<CalmBank, FirstByte>>,
     place: usize,
     handle: u16,
 ) -> Result<[u8; LIMITS], Stop>
     requires place { place < 16 }
-    requires seats { AreSeats desk.now.service.of (seats.old.ground ∷ seats.old.apps.items) }
-    ensures seats { AreSeats desk.now.service.of (seats.new.ground ∷ seats.new.apps.items) }
+    requires seats { AreSeats shared.now.service.of (seats.old.ground ∷ seats.old.apps.items) }
+    ensures seats { AreSeats shared.now.service.of (seats.new.ground ∷ seats.new.apps.items) }
 {
     let seat = &mut seats.apps[place];
-    read_last(rt, alloc, desk, seat, handle)
+    read_last(rt, alloc, shared, seat, handle)
 }
 
 /// What came of the flight.
@@ -214,20 +214,20 @@ struct Flown {
 fn fly_over<R: Threads + Wait + Sync>(
     rt: &R,
     alloc: Global,
-    desk: &Desk,
+    shared: &Shared,
     seats: &mut Seats<CalmBank, FirstByte, Core<CalmBank, FirstByte>>,
     rooms: &Rooms,
 ) -> Result<Flown, Stop>
-    requires seats { AreSeats desk.now.service.of (seats.old.ground ∷ seats.old.apps.items) }
-    ensures seats { AreSeats desk.now.service.of (seats.new.ground ∷ seats.new.apps.items) }
-    ensures shown { IfOk result (λ flown. AreShown desk.now.board flown) }
+    requires seats { AreSeats shared.now.service.of (seats.old.ground ∷ seats.old.apps.items) }
+    ensures seats { AreSeats shared.now.service.of (seats.new.ground ∷ seats.new.apps.items) }
+    ensures shown { IfOk result (λ flown. AreShown shared.now.board flown) }
 {
-    let guidance = begin_first(rt, alloc, desk, seats)?;
-    let thermal = begin_second(rt, alloc, desk, seats)?;
-    let ground = read_and_load(rt, alloc, desk, seats, rooms)?;
+    let guidance = begin_first(rt, alloc, shared, seats)?;
+    let thermal = begin_second(rt, alloc, shared, seats)?;
+    let ground = read_and_load(rt, alloc, shared, seats, rooms)?;
     let last = [
-        read_in_the_end(rt, alloc, desk, seats, 0, GUIDANCE_HANDLE)?,
-        read_in_the_end(rt, alloc, desk, seats, 1, THERMAL_HANDLE)?,
+        read_in_the_end(rt, alloc, shared, seats, 0, GUIDANCE_HANDLE)?,
+        read_in_the_end(rt, alloc, shared, seats, 1, THERMAL_HANDLE)?,
     ];
     Ok(Flown {
         guidance,
@@ -261,9 +261,9 @@ pub(crate) fn fly<R: AllocGlobal + Print + Threads + Wait + Sync>(rt: &R) -> Res
     let Ok((service, mut seats)) = Service::open(alloc, core) else {
         return Err(Stop::Memory);
     };
-    let desk = Desk { service, board };
-    let flown = fly_over(rt, alloc, &desk, &mut seats, &rooms);
-    let Desk { service, board } = desk;
+    let shared = Shared { service, board };
+    let flown = fly_over(rt, alloc, &shared, &mut seats, &rooms);
+    let Shared { service, board } = shared;
     let core = service.close(seats);
     let count = core.history().len();
     let _bank = core.end();

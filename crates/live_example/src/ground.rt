@@ -7,7 +7,7 @@ ghost use Rattle.tbl_live.specs.Seats.{IsOfActor, IsSame};
 ghost use Rattle.live_example.specs.Flights.{AreOfBoard};
 
 use crate::applications::LIMITS;
-use crate::desk::{Desk, Place, Stop};
+use crate::shared::{Place, Shared, Stop};
 use cfe_headers::{FileHeader, HEADER_LENGTH, write_cmd};
 use std::alloc::Global;
 use std::sync::Wait;
@@ -80,20 +80,20 @@ fn validated() -> [u8; 42] {
 pub(crate) fn load_new_limits<R: Wait>(
     rt: &R,
     alloc: Global,
-    desk: &Desk,
+    shared: &Shared,
     seat: &mut Place,
 ) -> Result<[Ticket; 4], Stop>
-    requires ground { IsOfActor desk.now.service.of 0 seat.old }
+    requires ground { IsOfActor shared.now.service.of 0 seat.old }
     ensures same { IsSame seat.old seat.new }
-    ensures shown { IfOk result (AreOfBoard desk.now.board) }
+    ensures shown { IfOk result (AreOfBoard shared.now.board) }
 {
     let mut out = Bytes::make(alloc, REPLY_LIMIT)?;
     let load = command(alloc, LOAD, &Name::<64>::of(FILE).field())?;
     let validate = command(alloc, VALIDATE, &validated())?;
     let activate = command(alloc, ACTIVATE, &Name::<40>::of(TABLE).field())?;
-    let (_, uplinked) = desk.call_shown(rt, seat, uplink(alloc)?, &mut out)?;
-    let (_, loaded) = desk.call_shown(rt, seat, load, &mut out)?;
-    let (_, validated) = desk.call_shown(rt, seat, validate, &mut out)?;
-    let (_, activated) = desk.call_shown(rt, seat, activate, &mut out)?;
+    let (_, uplinked) = shared.call_shown(rt, seat, uplink(alloc)?, &mut out)?;
+    let (_, loaded) = shared.call_shown(rt, seat, load, &mut out)?;
+    let (_, validated) = shared.call_shown(rt, seat, validate, &mut out)?;
+    let (_, activated) = shared.call_shown(rt, seat, activate, &mut out)?;
     Ok([uplinked, loaded, validated, activated])
 }

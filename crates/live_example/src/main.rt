@@ -3,10 +3,10 @@
 #![tactic(auto)]
 
 mod applications;
-mod desk;
 mod flight;
 mod ground;
 mod report;
+mod shared;
 
 use flight::fly;
 use std::process::ExitCode;

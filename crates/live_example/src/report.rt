@@ -3,7 +3,7 @@
 ghost use Rattle.live_example.specs.Flights.{AreOfBoard};
 
 use crate::applications::{LIMITS, Reads};
-use crate::desk::Stop;
+use crate::shared::Stop;
 use tbl_live::{Board, Ticket};
 
 /// Prints how often an application read the limits.

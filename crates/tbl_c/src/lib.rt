@@ -60,7 +60,7 @@ pub extern "C" fn tbl_step(
     out: &mut [u8],
     told: &mut Told,
 ) -> u8
-    // The service begins where `tbl_open` left it, and each step goes on from where the one before left it. So by `legal` of `Steps` the
+    // The service begins where `tbl_open` left it, and each step goes on from where the one before left it. So by `legal` of `Stepped` the
     // entries that C got are one legal history.
     ensures { OnHeld handle.old.service handle.new.service result (λ old new. Stepped ⟦<BreakingBank as Bank>⟧ ⟦<Answering as Validator>⟧ old new input.now
         verdicts.now (record { status = result; told = told.new.length; number = told.new.number; out = out.old; out_then = out.new })) }

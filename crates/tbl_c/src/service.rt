@@ -4,7 +4,7 @@ ghost use Rattle.std.specs.Prelude.{◌≡◌, ◌<◌, ◌≤◌, ◌%◌, ◌^
 ghost use Rattle.tbl_kinds.specs.Places.{bank_size};
 ghost use Rattle.tbl_kinds.specs.Requests.{Fits};
 ghost use Rattle.tbl_kinds.specs.Transcript.{entry_bytes};
-ghost use Rattle.table_requests.specs.Questions.{all_asked, question_of};
+ghost use Rattle.desk.specs.Questions.{all_asked, question_of};
 ghost use Rattle.tbl_core.specs.Answers.{IsBegun};
 ghost use Rattle.tbl_core.specs.Asking.{StandsOn};
 ghost use Rattle.tbl_core.specs.Banks.{HasBank};
@@ -23,11 +23,11 @@ use crate::status::{
     BAD_RECORD, BANK_FAILED, BANK_STOPPED, ENDED, FULL, NO_MEMORY, PLAYED, UNTOLD, VERDICT_MISSING,
 };
 use crate::told::{Told, Writes, copy_out};
+use desk::{Question, Questions};
 use handed_kit::{Answering, mute_entries};
 use session_records::{Next, next_record};
 use std::alloc::Global;
 use std::marker::Model;
-use table_requests::{Question, Questions};
 use tbl_core::{Engine, StartFault, StepFault};
 use tbl_fakes::{Break, BreakingBank, Span};
 use tbl_kinds::{Actor, Admit, Entry, Memory, Request};

@@ -11,6 +11,7 @@ pub mod Owned
 pub mod Owners
 pub mod Ready
 pub mod Resets
+pub mod Served
 pub mod Restoring
 pub mod Starting
 pub mod Stepping

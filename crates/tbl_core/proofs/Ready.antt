@@ -11,7 +11,7 @@ use Rattle.tbl_outside.specs.declared.validator.KitEntry.{KitEntry}
 use Rattle.validation.specs.Kits.{entry_at, owners, MayAskEach}
 use Rattle.validation.specs.Ready.{CanBeJudged, HaveFunctions}
 use Rattle.tbl_core.specs.Service.{EngineView, image_limit, IsReset, HasRoom, IsReady, AreReady}
-use Rattle.table_requests.specs.Limits.{AreCounted, AreSendable}
+use Rattle.desk.specs.Limits.{AreCounted, AreSendable}
 use Rattle.tbl_outside.specs.declared.validator.Validator.{Ghosts as ValidatorGhosts}
 
 -- whose function it is, by its number

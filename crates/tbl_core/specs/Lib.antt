@@ -9,6 +9,7 @@ pub mod Numbers
 pub mod Owned
 pub mod Pins
 pub mod Service
+pub mod Stepped
 pub mod Engine
 pub mod BankAsked
 pub mod Banks

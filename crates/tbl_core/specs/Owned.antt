@@ -1,5 +1,5 @@
--- What the owner of a table asks for it, by the table that its handle leads to.
-use Rattle.std.specs.Prelude.{ℕ, Option, Some, None}
+-- What the owner of a table asks for it, by the table that its handle leads to, and what a command asks.
+use Rattle.std.specs.Prelude.{ℕ, Option, Some, None, Ok}
 use Rattle.tbl_model.specs.State.{State, Table}
 use Rattle.tbl_model.specs.Effects.{Effect}
 use Rattle.tbl_model.specs.Given.{Given}
@@ -13,6 +13,12 @@ use Rattle.std.specs.Option.{option_map}
 use Rattle.tbl_model.specs.Copies.{then_copy}
 use Rattle.tbl_model.specs.Dumps.{filled_effect, edited_effect}
 use Rattle.tbl_model.specs.Sharing.{noticed_effect}
+use Rattle.tbl_model.specs.Commands.{effect_by}
+use Rattle.tbl_model.specs.Tables.{table_at}
+use Rattle.tbl_kinds.specs.GroundCommands.{GroundCommand}
+use Rattle.tbl_kinds.specs.Notes.{untouched}
+use Rattle.desk.specs.Requests.{Meaning, command}
+use Rattle.desk.specs.Rooms.{copy_room}
 use Rattle.tbl_kinds.specs.declared.note.BankNote.{BankNote}
 use Rattle.tbl_kinds.specs.declared.request.Request.{Request}
 use Rattle.tbl_kinds.specs.declared.request.Request.TheVariants as ask
@@ -40,3 +46,12 @@ copied_at (ask.LoadFile handle name) row note o = option_map (then_copy row note
 copied_at (ask.Update handle) row note o = option_map (then_copy row note) o
 copied_at (ask.Manage handle) row note o = option_map (then_copy row note) o
 copied_at _ row note o = o
+
+-- what the owner of the table in a row asks for it, as a request about tables: its events are those of a load or of all that is pending,
+-- and the event of a copy that failed may come after them
+abbrev pub owned : ℕ → Request → Meaning
+owned row request = record { effect = λ s given. owned_at (table_at s.tables row) s row request given; most = 3; more = λ tables. copy_room (table_at tables row) }
+
+-- the same of a command that calls nothing of the store
+abbrev pub commanded : GroundCommand → Meaning
+commanded read = command (λ s. effect_by s (Ok read) untouched) 4

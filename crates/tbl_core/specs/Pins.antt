@@ -6,7 +6,7 @@ use Rattle.tbl_model.specs.TableSteps.{handle_at, image_of}
 use Rattle.tbl_model.specs.Whole.{is_done, asks_address}
 use Rattle.tbl_registry.specs.Lending.{pins_image, pinned_image}
 use Rattle.tbl_registry.specs.declared.pin.Pin.{Pin}
-use Rattle.table_requests.specs.Reads.{AreRead}
+use Rattle.address_requests.specs.Reads.{AreRead}
 use Rattle.tbl_kinds.specs.Numbers.{piece}
 use Rattle.tbl_kinds.specs.declared.entry.Entry.{Entry}
 use Rattle.tbl_kinds.specs.declared.request.Request.{Request}

@@ -48,7 +48,7 @@ use Rattle.tbl_session.specs.Restores.{RestoresHeld}
 use Rattle.tbl_core.specs.Ended.{Follows, session_end}
 use Rattle.tbl_core.specs.BankAsked.{BankAsked, AsksOnce}
 use Rattle.tbl_core.specs.Owned.{owned_at, copied_at}
-use Rattle.table_requests.specs.Limits.{AreCounted, AreSendable}
+use Rattle.desk.specs.Limits.{AreCounted, AreSendable}
 use Rattle.store_requests.specs.Copying.{IsCopyCall}
 use Rattle.request_effects.specs.Reports.{most_events}
 use Rattle.request_effects.specs.Effects.{Effect, IsEffect, IsWithin, uncalled, given_of}
@@ -99,15 +99,15 @@ pub record CoreView (B C : Type 0) : Type 0 where
 
 abbrev pub parts_view : {B C : Type 0} → Parts B C → PartsView B C
 parts_view parts = record {
-  tables = parts.tables;
-  pending = parts.pending;
+  tables = parts.desk.tables;
+  pending = parts.desk.pending;
   store = parts.store;
-  drawer = parts.drawer;
-  apps = parts.apps;
-  kit = parts.kit;
-  admit = parts.admit;
-  seconds = parts.clock.seconds;
-  sub = parts.clock.sub;
+  drawer = parts.desk.drawer;
+  apps = parts.desk.apps;
+  kit = parts.desk.kit;
+  admit = parts.desk.admit;
+  seconds = parts.desk.clock.seconds;
+  sub = parts.desk.clock.sub;
   ended = parts.ended;
 }
 

@@ -5,43 +5,33 @@ ghost use Rattle.tbl_kinds.specs.declared.request.Actor.{Actor as Who};
 ghost use Rattle.tbl_kinds.specs.declared.request.Actor.TheVariants as by;
 ghost use Rattle.tbl_model.specs.Tables.{table_at};
 ghost use Rattle.request_effects.specs.Requests.{owners_handle};
-ghost use Rattle.table_requests.specs.Questions.{all_asked};
+ghost use Rattle.desk.specs.Questions.{all_asked};
 ghost use Rattle.tbl_core.specs.Asking.{AsksIn, Asks, HandsIn, MeetsLimit, StandsOn, may_ask};
 ghost use Rattle.tbl_core.specs.Service.{AreReady, HasRoom, LeadsTo, parts_view};
 
 use crate::engine::Engine;
 use crate::parts::Parts;
-use table_requests::{
-    Questions, check, load_file_asks, load_image_asks, manage_asks, validate_asks,
-};
+use desk::{Questions, check};
+use load_requests::{load_file_asks, load_image_asks};
 use tbl_kinds::{Actor, Memory, Request};
 use tbl_outside::{Bank, Validator};
+use update_requests::{manage_asks, validate_asks};
 
 impl<B: Bank, C: Validator> Parts<B, C> {
     /// What the owner of the table of a row would ask of its function.
     fn row_asks(&mut self, row: u8, request: &Request) -> Result<Questions, Memory>
         requires may { may_ask request.now ≡ true }
-        requires table { IsSome (table_at self.old.tables row) }
+        requires table { IsSome (table_at self.old.desk.tables row) }
         requires ready { AreReady C.Validator (parts_view self.old) }
         ensures asks { IfOk result (λ it. (actor : Who) → LeadsTo (parts_view self.old) actor request.now row → AsksIn (parts_view self.old) actor request.now (all_asked it)) }
         ensures same { self.new ≡ self.old }
     {
-        let alloc = self.alloc;
-        let tables = &mut self.tables;
+        let desk = &mut self.desk;
         match request {
-            Request::LoadImage { image, .. } => {
-                load_image_asks(alloc, tables, row, image.bytes())
-            }
-            Request::LoadFile { name, .. } => load_file_asks(
-                alloc,
-                tables,
-                &self.drawer,
-                &self.admit,
-                row,
-                name.name(),
-            ),
-            Request::Validate { .. } => validate_asks(alloc, tables, &self.pending, row),
-            Request::Manage { .. } => manage_asks(alloc, tables, &self.pending, row),
+            Request::LoadImage { image, .. } => load_image_asks(desk, row, image.bytes()),
+            Request::LoadFile { name, .. } => load_file_asks(desk, row, name.name()),
+            Request::Validate { .. } => validate_asks(desk, row),
+            Request::Manage { .. } => manage_asks(desk, row),
             _ => unreachable!(),
         }
     }
@@ -54,7 +44,7 @@ impl<B: Bank, C: Validator> Parts<B, C> {
         ensures asks { IfOk result (λ it. AsksIn (parts_view self.old) (by.App app) request.now (all_asked it)) }
         ensures same { self.new ≡ self.old }
     {
-        match check(&self.tables, &self.apps, app, handle, true) {
+        match check(&self.desk.tables, &self.desk.apps, app, handle, true) {
             Ok(row) => self.row_asks(row, request),
             Err(_) => Ok(Questions::none()),
         }
@@ -112,6 +102,6 @@ impl<B: Bank, C: Validator> Engine<B, C> {
         ensures hands { HandsIn number check self.old self.new }
         ensures on { StandsOn B.Bank self.old self.new }
     {
-        self.works.parts.kit.hand(number, check);
+        self.works.parts.desk.kit.hand(number, check);
     }
 }

@@ -94,21 +94,21 @@ impl<B: Bank, C: Validator> Parts<B, C> {
         ensures report { self.new.report ≡ self.old.report }
     {
         boot_store(&mut self.store, kind, note);
-        self.tables.clear();
-        self.pending.clear();
+        self.desk.tables.clear();
+        self.desk.pending.clear();
         self.ended = note.ended;
     }
 
     /// What outlives a reset of the processor is gone after a power-on: uplinked files, and applications that run.
     fn clear_at_power_on(&mut self, kind: ResetKind)
-        ensures held { parts_view self.new ≡ record (parts_view self.old) { drawer = if_processor kind self.old.drawer []; apps = if_processor kind self.old.apps (replicate 16 None) } }
+        ensures held { parts_view self.new ≡ record (parts_view self.old) { drawer = if_processor kind self.old.desk.drawer []; apps = if_processor kind self.old.desk.apps (replicate 16 None) } }
         ensures report { self.new.report ≡ self.old.report }
     {
         match kind {
             ResetKind::Processor => {}
             ResetKind::PowerOn => {
-                self.drawer.clear();
-                self.apps = Apps::make();
+                self.desk.drawer.clear();
+                self.desk.apps = Apps::make();
             }
         }
     }
@@ -123,7 +123,7 @@ impl<B: Bank, C: Validator> Parts<B, C> {
         ensures report { self.new.report ≡ self.old.report }
         ensures err { OnErr result (parts_view self.new ≡ parts_view self.old) }
     {
-        let mut whole = note_room(self.alloc)?;
+        let mut whole = note_room(self.desk.alloc)?;
         self.boot(kind, &mut whole.note);
         self.clear_at_power_on(kind);
         let status = reset_status(&whole.note);

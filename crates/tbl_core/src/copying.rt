@@ -10,6 +10,7 @@ use crate::engine::Engine;
 use crate::parts::{Parts, Room};
 use crate::playing::Works;
 use arrayvec::ArrayVec;
+use desk::Desk;
 use request_effects::Report;
 use std::alloc::Global;
 use store_requests::CopyRoom;
@@ -39,12 +40,12 @@ fn copy_admit(admit: &Admit) -> Admit
 impl<B: Bank, C: Validator> Parts<B, C> {
     /// What these parts take from memory beside the store, once more. Nothing is told yet.
     fn copy_room(&self, alloc: Global) -> Result<Room, Memory>
-        ensures tables { IfOk result (λ room. room.tables ≡ self.now.tables) }
-        ensures drawer { IfOk result (λ room. room.drawer ≡ self.now.drawer) }
+        ensures tables { IfOk result (λ room. room.tables ≡ self.now.desk.tables) }
+        ensures drawer { IfOk result (λ room. room.drawer ≡ self.now.desk.drawer) }
     {
         Ok(Room {
-            tables: self.tables.duplicate(alloc)?,
-            drawer: self.drawer.duplicate(alloc)?,
+            tables: self.desk.tables.duplicate(alloc)?,
+            drawer: self.desk.drawer.duplicate(alloc)?,
             report: Report::make(alloc)?,
         })
     }
@@ -56,16 +57,19 @@ impl<B: Bank, C: Validator> Parts<B, C> {
         ensures { IfOk result (λ copy. parts_view copy ≡ record (parts_view self.now) { store = record self.now.store { bank = bank }; kit = kit }) }
     {
         let room = self.copy_room(alloc)?;
-        Ok(Parts {
+        let desk = Desk {
             alloc,
             tables: room.tables,
-            apps: self.apps.duplicate(),
+            apps: self.desk.apps.duplicate(),
             kit,
-            admit: copy_admit(&self.admit),
-            pending: self.pending.duplicate(),
+            admit: copy_admit(&self.desk.admit),
+            pending: self.desk.pending.duplicate(),
             drawer: room.drawer,
+            clock: self.desk.clock,
+        };
+        Ok(Parts {
+            desk,
             store: self.store.duplicate(alloc, bank)?,
-            clock: self.clock,
             ended: self.ended,
             report: room.report,
             copies: CopyRoom::none(),
@@ -96,7 +100,7 @@ impl<B: Bank, C: Validator> Engine<B, C> {
     pub fn kit(&self) -> &Kit<C>
         ensures { result.now ≡ self.now.state.kit }
     {
-        &self.works.parts.kit
+        &self.works.parts.desk.kit
     }
 
     /// An engine in memory of its own that stands for whatever this one stands for. It is over this bank, which holds the same bytes, and

@@ -15,18 +15,19 @@ ghost use Rattle.tbl_kinds.specs.Notes.{untouched};
 ghost use Rattle.tbl_kinds.specs.GroundCommands.{command_in};
 ghost use Rattle.tbl_kinds.specs.declared.request.Request.TheVariants as ask;
 ghost use Rattle.tbl_model.specs.Tables.{table_at};
-ghost use Rattle.table_requests.specs.Rooms.{copy_room};
 ghost use Rattle.tbl_kinds.specs.Buffers.{Buffer};
 ghost use Rattle.tbl_kinds.specs.declared.request.Actor.{Actor};
 
 use crate::parts::Parts;
+use crate::requests::{commanded, owned};
 use cmd_packets::Ground;
+use desk::check;
 use reply_packets::{Counters, tell_call, tell_command};
 use request_effects::{ReadCommand, Report, read};
 use store_requests::{copy_room, delete_cds, then_copy};
-use table_requests::{app_validate, check, ground_command, load_file, load_image, manage, update};
 use tbl_kinds::{Actor, Answer, Bytes, Entry, Given, Memory, Note, Outcome, Reply, Request};
 use tbl_outside::{Bank, Validator};
+use update_requests::app_validate;
 
 /// Keeps an answer in its reply.
 pub(crate) fn put_answer(reply: &mut Reply, answer: Answer)
@@ -97,7 +98,7 @@ impl<B: Bank, C: Validator> Parts<B, C> {
         let Request::Command { bytes } = &entry.request else {
             unreachable!();
         };
-        let clock = self.clock;
+        let clock = self.desk.clock;
         let mut command = Ok(Ground::Noop);
         read(bytes.bytes(), &mut command);
         let reply = &mut entry.reply;
@@ -106,7 +107,7 @@ impl<B: Bank, C: Validator> Parts<B, C> {
         put_answer(reply, answer);
         self.boot_if_stopped(&mut note);
         let packets = &mut reply.packets;
-        let tables = &self.tables;
+        let tables = &self.desk.tables;
         tell_command(
             packets,
             clock,
@@ -142,26 +143,22 @@ impl<B: Bank, C: Validator> Parts<B, C> {
         match command {
             Err(fault) => Ok(fault.answer()),
             Ok(Ground::DeleteCds { table }) => {
-                let empty = Bytes::make(self.alloc, 0)?;
+                let empty = Bytes::make(self.desk.alloc, 0)?;
                 let store = &mut self.store;
                 let report = &mut self.report;
-                let effect = delete_cds(self.alloc, &self.tables, store, table, empty, report)?;
+                let effect = delete_cds(
+                    self.desk.alloc,
+                    &self.desk.tables,
+                    store,
+                    table,
+                    empty,
+                    report,
+                )?;
                 reply.bytes = effect.bytes;
                 *note = effect.note;
                 Ok(effect.answer)
             }
-            Ok(command) => ground_command(
-                self.alloc,
-                &mut self.tables,
-                &mut self.pending,
-                &mut self.drawer,
-                &self.admit,
-                self.clock,
-                command,
-                &mut reply.bytes,
-                &mut reply.packets,
-                &mut self.report,
-            ),
+            Ok(command) => commanded(&mut self.desk, reply, &mut self.report, command),
         }
     }
 
@@ -213,15 +210,15 @@ impl<B: Bank, C: Validator> Parts<B, C> {
         requires nothing { self.old.report ≡ nothing_reported }
         ensures answered { Answered B.Bank C.Validator (moment_of self.old counters.old entry.old) (moment_of self.new counters.new entry.new) self.new.report result }
     {
-        match check(&self.tables, &self.apps, app, handle, true) {
+        match check(&self.desk.tables, &self.desk.apps, app, handle, true) {
             Ok(row) => self.told_call(row, entry, counters),
             Err(status) => {
                 let Entry { request, reply, .. } = entry;
                 let answer = Answer::plain(status);
                 put_answer(reply, answer);
                 let packets = &mut reply.packets;
-                let tables = &self.tables;
-                let clock = self.clock;
+                let tables = &self.desk.tables;
+                let clock = self.desk.clock;
                 tell_call(
                     packets,
                     clock,
@@ -249,14 +246,14 @@ impl<B: Bank, C: Validator> Parts<B, C> {
         requires nothing { self.old.report ≡ nothing_reported }
         ensures answered { Answered B.Bank C.Validator (moment_of self.old counters.old entry.old) (moment_of self.new counters.new entry.new) self.new.report result }
     {
-        let clock = self.clock;
+        let clock = self.desk.clock;
         let Entry { request, reply, .. } = entry;
         let mut note = Note::untouched();
         let answer = self.told_effect(row, request, reply, &mut note)?;
         put_answer(reply, answer);
         self.boot_if_stopped(&mut note);
         let packets = &mut reply.packets;
-        let tables = &self.tables;
+        let tables = &self.desk.tables;
         tell_call(
             packets,
             clock,
@@ -279,7 +276,7 @@ impl<B: Bank, C: Validator> Parts<B, C> {
         note: &mut Note,
     ) -> Result<Answer, Memory>
         requires asks { IsSome (told_handle request.old) }
-        requires table { IsSome (table_at self.old.tables row) }
+        requires table { IsSome (table_at self.old.desk.tables row) }
         requires ready { AreReady C.Validator (parts_view self.old) }
         requires nothing { self.old.report ≡ nothing_reported }
         requires empty { IsEmptyReply reply.old }
@@ -294,13 +291,7 @@ impl<B: Bank, C: Validator> Parts<B, C> {
         ensures err { OnErr result (parts_view self.new ≡ parts_view self.old) }
     {
         match request {
-            Request::Validate { .. } => Ok(app_validate(
-                &mut self.tables,
-                &mut self.kit,
-                &mut self.pending,
-                row,
-                &mut self.report,
-            )),
+            Request::Validate { .. } => Ok(app_validate(&mut self.desk, &mut self.report, row)),
             _ => self.activate(row, request, reply, note),
         }
     }
@@ -316,7 +307,7 @@ impl<B: Bank, C: Validator> Parts<B, C> {
         note: &mut Note,
     ) -> Result<Answer, Memory>
         requires activates { activates request.old ≡ true }
-        requires table { IsSome (table_at self.old.tables row) }
+        requires table { IsSome (table_at self.old.desk.tables row) }
         requires ready { MayPlay C.Validator (parts_view self.old) }
         requires nothing { self.old.report ≡ nothing_reported }
         requires empty { IsEmptyReply reply.old }
@@ -327,10 +318,10 @@ impl<B: Bank, C: Validator> Parts<B, C> {
         ensures request { OnOk result (request.new ≡ request.old) }
         ensures err { OnErr result (parts_view self.new ≡ parts_view self.old) }
     {
-        let is_critical = copy_room(self.alloc, &self.tables, row, &mut self.copies)?;
-        let answer = self.owned(row, request, &mut reply.bytes, &mut reply.packets)?;
+        let is_critical = copy_room(self.desk.alloc, &self.desk.tables, row, &mut self.copies)?;
+        let answer = owned(&mut self.desk, reply, &mut self.report, row, request)?;
         Ok(then_copy(
-            &mut self.tables,
+            &mut self.desk.tables,
             &mut self.store,
             row,
             is_critical,
@@ -340,63 +331,5 @@ impl<B: Bank, C: Validator> Parts<B, C> {
             &mut self.report,
             note,
         ))
-    }
-
-    /// Does what the owner of the table of a row asks for it, which can make an image active.
-    fn owned(
-        &mut self,
-        row: u8,
-        request: &mut Request,
-        bytes: &mut Bytes,
-        packets: &mut Bytes,
-    ) -> Result<Answer, Memory>
-        requires activates { activates request.old ≡ true }
-        requires table { IsSome (table_at self.old.tables row) }
-        requires ready { MayPlay C.Validator (parts_view self.old) }
-        requires nothing { self.old.report ≡ nothing_reported }
-        requires no_bytes { bytes.old.list ≡ [] }
-        requires no_packets { packets.old.list ≡ [] }
-        requires one_packet { 24 ≤ packets.old.spare }
-        ensures does { IfOk result (λ answer. Does C.Validator 3 (parts_view self.old) (parts_view self.new) (owned_in row request.old) (told_effect answer bytes.new.list self.new.report)) }
-        ensures room { IfOk result (λ answer. HasRoom (copy_room (table_at self.old.tables row)) packets.new (told_effect answer bytes.new.list self.new.report)) }
-        ensures copies { self.new.copies ≡ self.old.copies }
-        ensures request { OnOk result (request.new ≡ request.old) }
-        ensures err { OnErr result (parts_view self.new ≡ parts_view self.old) }
-    {
-        let alloc = self.alloc;
-        let clock = self.clock;
-        let tables = &mut self.tables;
-        let kit = &mut self.kit;
-        let pending = &mut self.pending;
-        let report = &mut self.report;
-        match request {
-            Request::LoadImage { image, .. } => {
-                load_image(
-                    alloc, tables, kit, clock, row, image, bytes, packets, report,
-                )
-            }
-            Request::LoadFile { name, .. } => {
-                let drawer = &self.drawer;
-                let admit = &self.admit;
-                load_file(
-                    alloc,
-                    tables,
-                    kit,
-                    drawer,
-                    admit,
-                    clock,
-                    row,
-                    name.name(),
-                    bytes,
-                    packets,
-                    report,
-                )
-            }
-            Request::Update { .. } => update(tables, clock, row, packets, report),
-            Request::Manage { .. } => {
-                manage(tables, kit, pending, clock, row, bytes, packets, report)
-            }
-            _ => unreachable!(),
-        }
     }
 }

@@ -161,7 +161,7 @@ impl<B: Bank, C: Validator> Engine<B, C> {
         // No table has had more images than requests were played.
         ensures few { IfOk result (λ e. self.now.images ≤ self.now.played) }
     {
-        begun(self.works.parts.alloc, actor, request)
+        begun(self.works.parts.desk.alloc, actor, request)
     }
 
     /// Plays the request of an entry, and keeps the outcome in the entry. Whatever the engine represented, and whatever it has played

@@ -11,6 +11,7 @@ mod log;
 mod parts;
 mod playing;
 mod quiet;
+mod requests;
 mod service;
 mod storing;
 

@@ -6,6 +6,7 @@ ghost use Rattle.tbl_model.specs.State.{no_tables};
 ghost use Rattle.tbl_core.specs.Service.{parts_view};
 
 use cds_store::Store;
+use desk::Desk;
 use file_drawer::Drawer;
 use request_effects::{Clock, Report};
 use sharing::Apps;
@@ -19,16 +20,9 @@ use validation::{Kit, Pending};
 /// The parts of the service. A request may change several of them in one go.
 #[derive(Drop)]
 pub(crate) struct Parts<B: Bank, C: Validator> {
-    pub alloc: Global,
-    pub tables: Tables,
-    pub apps: Apps,
-    pub kit: Kit<C>,
-    /// The spacecraft and processors that table files may come from.
-    pub admit: Admit,
-    pub pending: Pending,
-    pub drawer: Drawer,
+    /// What requests about tables work on.
+    pub desk: Desk<C>,
     pub store: Store<B>,
-    pub clock: Clock,
     /// Whether a boot failed or was stopped.
     pub ended: bool,
     /// What telemetry reports of the request that is played.
@@ -68,14 +62,14 @@ impl<B: Bank, C: Validator> Parts<B, C> {
         admit: Admit,
     ) -> Result<Parts<B, C>, Back<Memory, B>>
         requires { bank_size ≤ B.size bank }
-        ensures tables { IfOk result (λ parts. parts.tables ≡ no_tables) }
-        ensures apps { IfOk result (λ parts. parts.apps ≡ replicate 16 None) }
-        ensures kit { IfOk result (λ parts. parts.kit ≡ kit) }
-        ensures admit { IfOk result (λ parts. parts.admit ≡ admit) }
-        ensures pending { IfOk result (λ parts. parts.pending ≡ []) }
-        ensures drawer { IfOk result (λ parts. parts.drawer ≡ []) }
-        ensures seconds { IfOk result (λ parts. parts.clock.seconds ≡ 0) }
-        ensures sub { IfOk result (λ parts. parts.clock.sub ≡ 0) }
+        ensures tables { IfOk result (λ parts. parts.desk.tables ≡ no_tables) }
+        ensures apps { IfOk result (λ parts. parts.desk.apps ≡ replicate 16 None) }
+        ensures kit { IfOk result (λ parts. parts.desk.kit ≡ kit) }
+        ensures admit { IfOk result (λ parts. parts.desk.admit ≡ admit) }
+        ensures pending { IfOk result (λ parts. parts.desk.pending ≡ []) }
+        ensures drawer { IfOk result (λ parts. parts.desk.drawer ≡ []) }
+        ensures seconds { IfOk result (λ parts. parts.desk.clock.seconds ≡ 0) }
+        ensures sub { IfOk result (λ parts. parts.desk.clock.sub ≡ 0) }
         ensures bank { IfOk result (λ parts. parts.store.bank ≡ bank) }
         ensures ended { IfOk result (λ parts. parts.ended ≡ false) }
         ensures err { IfErr result (λ back. back.bank ≡ bank) }
@@ -84,7 +78,7 @@ impl<B: Bank, C: Validator> Parts<B, C> {
             Ok(room) => room,
             Err(cause) => return Err(Back { cause, bank }),
         };
-        Ok(Parts {
+        let desk = Desk {
             alloc,
             tables: room.tables,
             apps: Apps::make(),
@@ -92,8 +86,11 @@ impl<B: Bank, C: Validator> Parts<B, C> {
             admit,
             pending: Pending::make(),
             drawer: room.drawer,
-            store: Store::make(alloc, bank)?,
             clock: Clock { seconds: 0, sub: 0 },
+        };
+        Ok(Parts {
+            desk,
+            store: Store::make(alloc, bank)?,
             ended: false,
             report: room.report,
             copies: CopyRoom::none(),

@@ -112,14 +112,14 @@ impl<B: Bank, C: Validator> Works<B, C> {
         ensures images { IfOk result (λ works. works.images ≡ 0) }
         ensures counts { IfOk result (λ works. counts_view works.counters ≡ no_counts) }
         ensures places { IfOk result (λ works. length works.gets.items ≡ handle_limit) }
-        ensures tables { IfOk result (λ works. works.parts.tables ≡ no_tables) }
-        ensures apps { IfOk result (λ works. works.parts.apps ≡ replicate 16 None) }
-        ensures kit { IfOk result (λ works. works.parts.kit ≡ kit) }
-        ensures admit { IfOk result (λ works. works.parts.admit ≡ admit) }
-        ensures pending { IfOk result (λ works. works.parts.pending ≡ []) }
-        ensures drawer { IfOk result (λ works. works.parts.drawer ≡ []) }
-        ensures seconds { IfOk result (λ works. works.parts.clock.seconds ≡ 0) }
-        ensures sub { IfOk result (λ works. works.parts.clock.sub ≡ 0) }
+        ensures tables { IfOk result (λ works. works.parts.desk.tables ≡ no_tables) }
+        ensures apps { IfOk result (λ works. works.parts.desk.apps ≡ replicate 16 None) }
+        ensures kit { IfOk result (λ works. works.parts.desk.kit ≡ kit) }
+        ensures admit { IfOk result (λ works. works.parts.desk.admit ≡ admit) }
+        ensures pending { IfOk result (λ works. works.parts.desk.pending ≡ []) }
+        ensures drawer { IfOk result (λ works. works.parts.desk.drawer ≡ []) }
+        ensures seconds { IfOk result (λ works. works.parts.desk.clock.seconds ≡ 0) }
+        ensures sub { IfOk result (λ works. works.parts.desk.clock.sub ≡ 0) }
         ensures bank { IfOk result (λ works. works.parts.store.bank ≡ bank) }
         ensures ended { IfOk result (λ works. works.parts.ended ≡ false) }
         ensures err { IfErr result (λ back. back.bank ≡ bank) }
@@ -156,11 +156,11 @@ impl<B: Bank, C: Validator> Works<B, C> {
 
     /// Lends the image that a handle pins, with the place of the call that got its address.
     pub(crate) fn lend(&self, handle: u16) -> Result<Option<Pin>, Memory>
-        ensures lent { IfOk result (λ lent. lent ≡ lent_at handle (place_in self.now.gets.items handle) self.now.parts.tables) }
-        ensures none { IfOk result (λ lent. is_some lent ≡ pins_image handle self.now.parts.tables) }
+        ensures lent { IfOk result (λ lent. lent ≡ lent_at handle (place_in self.now.gets.items handle) self.now.parts.desk.tables) }
+        ensures none { IfOk result (λ lent. is_some lent ≡ pins_image handle self.now.parts.desk.tables) }
         ensures within { IfOk result (λ lent. OnSome lent (handle < handle_limit)) }
     {
-        self.parts.tables.lend(handle, self.place_of(handle))
+        self.parts.desk.tables.lend(handle, self.place_of(handle))
     }
 
     /// Computes the bound on the images of a table again: the most that one has had.
@@ -169,7 +169,7 @@ impl<B: Bank, C: Validator> Works<B, C> {
         ensures images { works_view self.new ≡ recounted (works_view self.old) }
         ensures ready { IsReady C.Validator (works_view self.new) }
     {
-        self.images = self.parts.tables.most_images();
+        self.images = self.parts.desk.tables.most_images();
     }
 
     /// Does what a request asks that isn't answered yet, and keeps the outcome in its entry. If memory runs out, nothing is changed but the
@@ -206,7 +206,7 @@ impl<B: Bank, C: Validator> Works<B, C> {
         requires room { HasRoom (works_view self.old) entry.old.request }
         requires ready { IsReady C.Validator (works_view self.old) }
         requires live { self.old.parts.ended ≡ false }
-        requires lent { place_in self.old.gets.items pin.now.handle ≡ pin.now.place → MayBeLent entry.old.request self.old.parts.tables slice.list }
+        requires lent { place_in self.old.gets.items pin.now.handle ≡ pin.now.place → MayBeLent entry.old.request self.old.parts.desk.tables slice.list }
         ensures plays { OnPlayed result (Plays B.Bank C.Validator (works_view self.old) (works_view self.new) (entry.old.actor, entry.old.request) entry.new result) }
         ensures lent { StillPins pin.now self.old.gets.items → (result ≡ Ok tt) × GivesLent (parts_view self.old.parts) slice entry.new }
         ensures err { result ≡ Err StepFault.Memory → works_view self.new ≡ works_view self.old }

@@ -19,12 +19,15 @@ ghost use Rattle.tbl_kinds.specs.declared.request.Actor.{Actor};
 
 use crate::dispatch::put_answer;
 use crate::parts::Parts;
+use address_requests::{get, read, read_lent, release};
+use desk::{Desk, check};
+use dump_requests::{dump_to_buffer, edit, get_info};
+use load_requests::file;
 use request_effects::Clock;
-use table_requests::{
-    check, dump_to_buffer, edit, file, get, get_info, get_status, read_lent, release,
-};
+use sharing::{app_exit, notify, share, unregister};
 use tbl_kinds::{Actor, Answer, Bytes, Entry, Memory, Request, Status};
 use tbl_outside::{Bank, Validator};
+use update_requests::get_status;
 
 impl<B: Bank, C: Validator> Parts<B, C> {
     /// Takes an uplinked file, or the time. Nothing is reported.
@@ -54,9 +57,9 @@ impl<B: Bank, C: Validator> Parts<B, C> {
         ensures err { OnErr result (parts_view self.new ≡ parts_view self.old) }
     {
         match request {
-            Request::File { file: uplink } => file(&mut self.drawer, uplink),
+            Request::File { file: uplink } => file(&mut self.desk.drawer, uplink),
             Request::Time { seconds, sub } => {
-                self.clock = Clock {
+                self.desk.clock = Clock {
                     seconds: *seconds,
                     sub: *sub,
                 };
@@ -82,29 +85,35 @@ impl<B: Bank, C: Validator> Parts<B, C> {
         ensures report { self.new.report ≡ self.old.report }
         ensures err { OnErr result (parts_view self.new ≡ parts_view self.old) }
     {
-        let tables = &mut self.tables;
-        let pending = &mut self.pending;
-        let apps = &mut self.apps;
+        let desk = &mut self.desk;
         match request {
-            Request::Get { handle } => Ok(get(tables, apps, app, *handle)),
+            Request::Get { handle } => Ok(get(desk, app, *handle)),
             Request::Read {
                 handle,
                 offset,
                 len,
-            } => table_requests::read(tables, apps, app, *handle, *offset, *len, bytes),
-            Request::Release { handle } => Ok(release(tables, apps, app, *handle)),
-            Request::GetStatus { handle } => Ok(get_status(tables, pending, apps, app, *handle)),
-            Request::GetInfo { name } => get_info(tables, apps, app, name, bytes),
-            Request::DumpToBuffer { handle } => match check(tables, apps, app, *handle, true) {
-                Ok(row) => Ok(dump_to_buffer(tables, row)),
+            } => read(desk, app, *handle, *offset, *len, bytes),
+            Request::Release { handle } => Ok(release(desk, app, *handle)),
+            Request::GetStatus { handle } => Ok(get_status(desk, app, *handle)),
+            Request::GetInfo { name } => {
+                get_info(&mut desk.tables, &desk.apps, app, name, bytes)
+            },
+            Request::DumpToBuffer { handle } => match check(
+                &desk.tables,
+                &desk.apps,
+                app,
+                *handle,
+                true,
+            ) {
+                Ok(row) => Ok(dump_to_buffer(&mut desk.tables, row)),
                 Err(status) => Ok(Answer::plain(status)),
             },
             Request::Edit {
                 handle,
                 offset,
                 bytes: piece,
-            } => match check(tables, apps, app, *handle, true) {
-                Ok(row) => edit(self.alloc, tables, row, *offset, piece.bytes()),
+            } => match check(&desk.tables, &desk.apps, app, *handle, true) {
+                Ok(row) => edit(desk.alloc, &mut desk.tables, row, *offset, piece.bytes()),
                 Err(status) => Ok(Answer::plain(status)),
             },
             Request::Notify {
@@ -112,16 +121,31 @@ impl<B: Bank, C: Validator> Parts<B, C> {
                 msg,
                 code,
                 parameter,
-            } => match check(tables, apps, app, *handle, true) {
-                Ok(row) => Ok(sharing::notify(tables, row, *msg, *code, *parameter)),
+            } => match check(&desk.tables, &desk.apps, app, *handle, true) {
+                Ok(row) => Ok(notify(&mut desk.tables, row, *msg, *code, *parameter)),
                 Err(status) => Ok(Answer::plain(status)),
             },
-            Request::Start { name } => Ok(Answer::plain(apps.start(app, name))),
-            Request::Share { name } => Ok(sharing::share(tables, apps, app, name)),
+            Request::Start { name } => Ok(Answer::plain(desk.apps.start(app, name))),
+            Request::Share { name } => Ok(share(&mut desk.tables, &desk.apps, app, name)),
             Request::Unregister { handle } => {
-                Ok(sharing::unregister(tables, pending, apps, app, *handle))
+                let Desk {
+                    tables,
+                    pending,
+                    apps,
+                    ..
+                } = desk;
+                Ok(unregister(tables, pending, apps, app, *handle))
             }
-            Request::Exit => Ok(sharing::app_exit(tables, pending, &mut self.kit, apps, app)),
+            Request::Exit => {
+                let Desk {
+                    tables,
+                    pending,
+                    kit,
+                    apps,
+                    ..
+                } = desk;
+                Ok(app_exit(tables, pending, kit, apps, app))
+            }
             _ => unreachable!(),
         }
     }
@@ -131,7 +155,7 @@ impl<B: Bank, C: Validator> Parts<B, C> {
         requires begun { IsBegun entry.old }
         requires fits { Fits entry.old.actor entry.old.request }
         requires ready { AreReady C.Validator (parts_view self.old) }
-        requires lent { MayBeLent entry.old.request self.old.tables slice.list }
+        requires lent { MayBeLent entry.old.request self.old.desk.tables slice.list }
         ensures answers { (counts : Counts) → AreCounts counts
             → Answers B.Bank C.Validator (moment_at (parts_view self.old) counts entry.old) (moment_at (parts_view self.new) counts entry.new) nothing_reported }
         ensures given { entry.new.given ≡ nothing_given }
@@ -148,11 +172,8 @@ impl<B: Bank, C: Validator> Parts<B, C> {
         else {
             unreachable!();
         };
-        let tables = &self.tables;
         let bytes = &mut entry.reply.bytes;
-        let answer = read_lent(
-            tables, &self.apps, app, *handle, *offset, *len, slice, bytes,
-        );
+        let answer = read_lent(&self.desk, app, *handle, *offset, *len, slice, bytes);
         put_answer(&mut entry.reply, answer);
     }
 }

@@ -1,36 +1,25 @@
 //! The core, and one step of it.
 
-ghost use Rattle.std.specs.Prelude.{◌≡◌, ◌≢◌, ℕ, true, false, ◌+◌, ◌^◌, ◌<◌, ◌≤◌, ◌↔◌, Option, Some, List, [], ◌∷◌, ◌++◌, length, Err, IsTrue, OnOk, All, IfOk, IfErr, IfSome, is_some};
-ghost use Rattle.tbl_model.specs.State.{State, first_state, no_tables};
-ghost use Rattle.tbl_model.specs.Vouched.{IsVouched};
-ghost use Rattle.tbl_model.specs.Whole.{IsWhole};
-ghost use Rattle.tbl_session.specs.Crashes.{AfterCrash, calls_in, all_calls_in};
-ghost use Rattle.tbl_session.specs.Completed.{HasCompleted, LeaveAlone};
+ghost use Rattle.std.specs.Prelude.{◌≡◌, ◌≢◌, true, false, ◌^◌, ◌<◌, ◌≤◌, ◌↔◌, Option, Some, [], length, Err, IsTrue, OnOk, All, IfOk, IfErr, IfSome, is_some};
+ghost use Rattle.tbl_model.specs.State.{first_state};
 ghost use Rattle.cds_store.specs.Moments.{ShowsIn};
-ghost use Rattle.tbl_kinds.specs.declared.block.Block.{Block};
-ghost use Rattle.tbl_kinds.specs.declared.request.Request.TheVariants as ask;
-ghost use Rattle.tbl_kinds.specs.declared.request.ResetKind.TheVariants.{Processor, PowerOn};
+ghost use Rattle.tbl_kinds.specs.declared.request.ResetKind.TheVariants.{Processor};
 ghost use Rattle.tbl_outside.specs.Bank.{LeavesOnly};
-ghost use Rattle.tbl_session.specs.Backed.{AreSingle, AreBacked};
 ghost use Rattle.tbl_kinds.specs.Requests.{Fits};
 ghost use Rattle.tbl_kinds.specs.Records.{record_limit};
 ghost use Rattle.tbl_kinds.specs.Places.{bank_size};
 ghost use Rattle.cds_layout.specs.Images.{store_of};
-ghost use Rattle.tbl_core.specs.BankAsked.{BootAsks, AsksOnce};
+ghost use Rattle.tbl_core.specs.BankAsked.{BootAsks};
 ghost use Rattle.tbl_core.specs.Ended.{OnPlayed};
-ghost use Rattle.tbl_session.specs.Restores.{RestoresHeld};
+ghost use Rattle.tbl_core.specs.Stepped.{Stepped};
 ghost use Rattle.tbl_core.specs.Log.{IsSmall};
 ghost use Rattle.tbl_core.specs.Lent.{StillPins, LastGives};
-ghost use Rattle.tbl_model.specs.History.{begins_at, run_from};
 ghost use Rattle.validation.specs.Kits.{owners};
 ghost use Rattle.tbl_outside.specs.Counts.{Still};
-ghost use Rattle.tbl_outside.specs.declared.validator.KitEntry.{KitEntry as Function};
 ghost use Rattle.tbl_registry.specs.Lending.{pins_image, lent_at};
 ghost use Rattle.tbl_core.specs.Pins.{place_in, IsSliceOf};
 ghost use Rattle.tbl_core.specs.declared.service.StartFault.TheVariants.{Memory as NoMemory};
-ghost use Rattle.tbl_core.specs.Service.{FollowsFrom, Vouches, AskedBelow, AddsOne, PinsOnward, IsOfPin, start_fault, StartCounted};
-ghost use Rattle.tbl_core.specs.Verdicts.{Judged};
-ghost use Rattle.tbl_session.specs.Verdicts.{questions_in, KeepsToFunctions};
+ghost use Rattle.tbl_core.specs.Service.{FollowsFrom, AskedBelow, PinsOnward, IsOfPin, start_fault, StartCounted};
 ghost use Rattle.tbl_kinds.specs.declared.entry.Entry.{Entry};
 
 use crate::engine::Engine;
@@ -165,43 +154,7 @@ impl<B: Bank, C: Validator> Core<B, C> {
         requires fits { Fits actor request }
         requires live { self.old.state.ended ≡ false }
         requires room { length self.old.entries < record_limit }
-        // One entry more, also if a boot in the request was the last; its note and its answer have their causes in the counts of the bank.
-        ensures adds { OnPlayed result (AddsOne B.Bank self.old self.new actor request result) }
-        ensures legal { OnPlayed result ((opening : State) → FollowsFrom B.Bank opening self.old → FollowsFrom B.Bank opening self.new) }
-        ensures whole { OnPlayed result (B.tells → (opening : State) → opening.tables ≡ no_tables → opening.pending ≡ [] → FollowsFrom B.Bank opening self.old → IsWhole opening self.new.entries) }
-        // Each critical table has its block in the store, and at most 32 are critical.
-        ensures backed { OnPlayed result (B.tells → (opening : State) → opening.tables ≡ no_tables → AreSingle opening.store → FollowsFrom B.Bank opening self.old
-            → AreBacked (run_from (begins_at opening) self.new.entries).state) }
-        // The functions were asked what the request asks, and the entry has their verdicts.
-        ensures judged { OnPlayed result ((e : Entry) × (self.new.entries ≡ self.old.entries ++ e ∷ []) × (B.tells → (opening : State) → FollowsFrom B.Bank opening self.old
-            → Judged C.Validator self.old.state.kit self.new.state.kit (questions_in (run_from (begins_at opening) self.old.entries) e) e.given.verdicts)) }
-        // No image went active that its table's function didn't answer for.
-        ensures vouched { OnPlayed result (B.tells → (opening : State) → opening.tables ≡ no_tables → opening.pending ≡ [] → FollowsFrom B.Bank opening self.old → IsVouched opening self.new.entries) }
-        // Whatever functions it was given at first, the history's verdicts are still theirs.
-        ensures verdicts { OnPlayed result ((opening : State) (given : List (Option (Function C))) → Vouches B.Bank C.verdict given opening self.old
-            → Vouches B.Bank C.verdict given opening self.new) }
-        // And so each verdict that is reported of an image.
-        ensures kept { OnPlayed result (B.tells → (opening : State) (given : List (Option (Function C))) → Vouches B.Bank C.verdict given opening self.old
-            → KeepsToFunctions C.verdict given opening self.new.entries) }
-        // What a restore gave is what its block held in the bank as the step began.
-        ensures gave { OnPlayed result ((e : Entry) × (self.new.entries ≡ self.old.entries ++ e ∷ []) × (B.tells → (opening : State) → FollowsFrom B.Bank opening self.old
-            → RestoresHeld (B.now self.old.state.store.bank) (all_calls_in (run_from (begins_at opening) self.old.entries) e)
-            (run_from (begins_at opening) self.old.entries).state.store e.given.note)) }
-        // The bank was asked what the request asks, and no more.
-        ensures asked { OnPlayed result ((e : Entry) × (self.new.entries ≡ self.old.entries ++ e ∷ []) × (B.tells → (opening : State) → FollowsFrom B.Bank opening self.old
-            → AsksOnce B.Bank self.old.state.store self.new.state.store (run_from (begins_at opening) self.old.entries) e)) }
-        // A reset at any moment in it leaves the store as it was after the entries before, or what this request made of it so far.
-        ensures crash { OnPlayed result (B.tells_moments → (opening : State) → FollowsFrom B.Bank opening self.old
-            → LeavesOnly B.clock B.left_since self.old.state.store.bank self.new.state.store.bank (λ image. AfterCrash opening self.new.entries (length self.old.entries) (store_of image))) }
-        // A completed copy of an image stays, each moment, through a request that neither copies into its block nor deletes it and
-        // is no power-on.
-        ensures completed { OnPlayed result ((e : Entry) × (self.new.entries ≡ self.old.entries ++ e ∷ []) × (B.tells_moments → (opening : State) → FollowsFrom B.Bank opening self.old
-            → (slot : ℕ) (block : Block) (copied : List ℕ) → HasCompleted (run_from (begins_at opening) self.old.entries).state.store slot block copied
-            → LeaveAlone slot (calls_in (run_from (begins_at opening) self.old.entries) e) → request ≢ ask.Reset PowerOn
-            → LeavesOnly B.clock B.left_since self.old.state.store.bank self.new.state.store.bank (λ image. HasCompleted (store_of image) slot block copied))) }
-        // The bytes that it began with, and that a restore in it read, are some that a reset may have left.
-        ensures left { OnPlayed result (B.tells_moments → (opening : State) → FollowsFrom B.Bank opening self.old
-            → B.left_since self.new.state.store.bank (B.clock self.old.state.store.bank) (B.now self.old.state.store.bank)) }
+        ensures stepped { OnPlayed result ((e : Entry) × Stepped B.Bank C.Validator self.old self.new (actor, request) e result) }
         // What a handle pins after it, it pinned before, or it got the address in it.
         ensures pins { OnPlayed result (PinsOnward self.old self.new) }
         ensures live { OnOk result (self.new.state.ended ≡ false) }
@@ -226,43 +179,7 @@ impl<B: Bank, C: Validator> Core<B, C> {
         requires slice { IsSliceOf pin.now request slice.list }
         // Over any bank: what was handed in is what is answered, or the Read is refused.
         ensures lent { StillPins pin.now self.old.gets → OnPlayed result (LastGives self.old.state self.old.entries self.new.entries slice) }
-        // One entry more, also if a boot in the request was the last; its note and its answer have their causes in the counts of the bank.
-        ensures adds { OnPlayed result (AddsOne B.Bank self.old self.new actor request result) }
-        ensures legal { OnPlayed result ((opening : State) → FollowsFrom B.Bank opening self.old → FollowsFrom B.Bank opening self.new) }
-        ensures whole { OnPlayed result (B.tells → (opening : State) → opening.tables ≡ no_tables → opening.pending ≡ [] → FollowsFrom B.Bank opening self.old → IsWhole opening self.new.entries) }
-        // Each critical table has its block in the store, and at most 32 are critical.
-        ensures backed { OnPlayed result (B.tells → (opening : State) → opening.tables ≡ no_tables → AreSingle opening.store → FollowsFrom B.Bank opening self.old
-            → AreBacked (run_from (begins_at opening) self.new.entries).state) }
-        // The functions were asked what the request asks, and the entry has their verdicts.
-        ensures judged { OnPlayed result ((e : Entry) × (self.new.entries ≡ self.old.entries ++ e ∷ []) × (B.tells → (opening : State) → FollowsFrom B.Bank opening self.old
-            → Judged C.Validator self.old.state.kit self.new.state.kit (questions_in (run_from (begins_at opening) self.old.entries) e) e.given.verdicts)) }
-        // No image went active that its table's function didn't answer for.
-        ensures vouched { OnPlayed result (B.tells → (opening : State) → opening.tables ≡ no_tables → opening.pending ≡ [] → FollowsFrom B.Bank opening self.old → IsVouched opening self.new.entries) }
-        // Whatever functions it was given at first, the history's verdicts are still theirs.
-        ensures verdicts { OnPlayed result ((opening : State) (given : List (Option (Function C))) → Vouches B.Bank C.verdict given opening self.old
-            → Vouches B.Bank C.verdict given opening self.new) }
-        // And so each verdict that is reported of an image.
-        ensures kept { OnPlayed result (B.tells → (opening : State) (given : List (Option (Function C))) → Vouches B.Bank C.verdict given opening self.old
-            → KeepsToFunctions C.verdict given opening self.new.entries) }
-        // What a restore gave is what its block held in the bank as the step began.
-        ensures gave { OnPlayed result ((e : Entry) × (self.new.entries ≡ self.old.entries ++ e ∷ []) × (B.tells → (opening : State) → FollowsFrom B.Bank opening self.old
-            → RestoresHeld (B.now self.old.state.store.bank) (all_calls_in (run_from (begins_at opening) self.old.entries) e)
-            (run_from (begins_at opening) self.old.entries).state.store e.given.note)) }
-        // The bank was asked what the request asks, and no more.
-        ensures asked { OnPlayed result ((e : Entry) × (self.new.entries ≡ self.old.entries ++ e ∷ []) × (B.tells → (opening : State) → FollowsFrom B.Bank opening self.old
-            → AsksOnce B.Bank self.old.state.store self.new.state.store (run_from (begins_at opening) self.old.entries) e)) }
-        // A reset at any moment in it leaves the store as it was after the entries before, or what this request made of it so far.
-        ensures crash { OnPlayed result (B.tells_moments → (opening : State) → FollowsFrom B.Bank opening self.old
-            → LeavesOnly B.clock B.left_since self.old.state.store.bank self.new.state.store.bank (λ image. AfterCrash opening self.new.entries (length self.old.entries) (store_of image))) }
-        // A completed copy of an image stays, each moment, through a request that neither copies into its block nor deletes it and
-        // is no power-on.
-        ensures completed { OnPlayed result ((e : Entry) × (self.new.entries ≡ self.old.entries ++ e ∷ []) × (B.tells_moments → (opening : State) → FollowsFrom B.Bank opening self.old
-            → (slot : ℕ) (block : Block) (copied : List ℕ) → HasCompleted (run_from (begins_at opening) self.old.entries).state.store slot block copied
-            → LeaveAlone slot (calls_in (run_from (begins_at opening) self.old.entries) e) → request ≢ ask.Reset PowerOn
-            → LeavesOnly B.clock B.left_since self.old.state.store.bank self.new.state.store.bank (λ image. HasCompleted (store_of image) slot block copied))) }
-        // The bytes that it began with, and that a restore in it read, are some that a reset may have left.
-        ensures left { OnPlayed result (B.tells_moments → (opening : State) → FollowsFrom B.Bank opening self.old
-            → B.left_since self.new.state.store.bank (B.clock self.old.state.store.bank) (B.now self.old.state.store.bank)) }
+        ensures stepped { OnPlayed result ((e : Entry) × Stepped B.Bank C.Validator self.old self.new (actor, request) e result) }
         // What a handle pins after it, it pinned before, or it got the address in it.
         ensures pins { OnPlayed result (PinsOnward self.old self.new) }
         ensures live { OnOk result (self.new.state.ended ≡ false) }

@@ -35,7 +35,7 @@ impl<B: Bank, C: Validator> Parts<B, C> {
         let Request::Reset { kind } = &entry.request else {
             unreachable!();
         };
-        let empty = Bytes::make(self.alloc, 0)?;
+        let empty = Bytes::make(self.desk.alloc, 0)?;
         let effect = self.reset(*kind, empty)?;
         counters.begin_anew();
         put_answer(&mut entry.reply, effect.answer);
@@ -59,7 +59,7 @@ impl<B: Bank, C: Validator> Parts<B, C> {
         requires nothing { self.old.report ≡ nothing_reported }
         ensures answered { Answered B.Bank C.Validator (moment_of self.old counters.old entry.old) (moment_of self.new counters.new entry.new) self.new.report result }
     {
-        let clock = self.clock;
+        let clock = self.desk.clock;
         let Entry { request, reply, .. } = entry;
         let effect = self.app_store_request(app, request)?;
         let answer = effect.answer;
@@ -68,7 +68,7 @@ impl<B: Bank, C: Validator> Parts<B, C> {
         put_answer(reply, answer);
         reply.bytes = effect.bytes;
         let packets = &mut reply.packets;
-        let tables = &self.tables;
+        let tables = &self.desk.tables;
         tell_call(
             packets,
             clock,
@@ -93,10 +93,10 @@ impl<B: Bank, C: Validator> Parts<B, C> {
         ensures report { self.new.report ≡ self.old.report }
         ensures err { OnErr result (parts_view self.new ≡ parts_view self.old) }
     {
-        let alloc = self.alloc;
+        let alloc = self.desk.alloc;
         let empty = Bytes::make(alloc, 0)?;
         let store = &mut self.store;
-        let apps = &self.apps;
+        let apps = &self.desk.apps;
         match request {
             Request::Register {
                 name,
@@ -105,9 +105,9 @@ impl<B: Bank, C: Validator> Parts<B, C> {
                 validator,
             } => register(
                 alloc,
-                &mut self.tables,
+                &mut self.desk.tables,
                 store,
-                &self.kit,
+                &self.desk.kit,
                 apps,
                 app,
                 name,

@@ -13,8 +13,6 @@ mod images;
 #[cfg(test)]
 mod kinds;
 #[cfg(test)]
-mod partial_loads;
-#[cfg(test)]
 mod placing;
 #[cfg(test)]
 mod recovering;

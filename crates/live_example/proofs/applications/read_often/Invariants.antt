@@ -4,6 +4,6 @@ use Rattle.live_example.proofs.applications.read_often.Given as goal
 
 abbrev pub invariant-reads : goal.invariant-reads
 invariant-reads g l = record {
-  app : IsAppOf l.desk.service.of l.seat;
+  app : IsAppOf l.shared.service.of l.seat;
   same : IsSame l.fn.seat l.seat;
 }

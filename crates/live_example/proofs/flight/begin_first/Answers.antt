@@ -10,7 +10,7 @@ pub begin_guidance-requires : goal.begin_guidance-requires
 begin_guidance-requires g c =
     let lent = c.index_mut-seat in
     let count = c.requires.seats.count in
-    record { app = subst (IsAppOf c.args.desk.now.service.of) (sym lent.ensures.value) (are_apps _ _ _ c.requires.seats 0 lent.result.now (omega (arith, count))) }
+    record { app = subst (IsAppOf c.args.shared.now.service.of) (sym lent.ensures.value) (are_apps _ _ _ c.requires.seats 0 lent.result.now (omega (arith, count))) }
 
 pub returns-clause-seats : goal.returns-clause-seats
 returns-clause-seats g c =

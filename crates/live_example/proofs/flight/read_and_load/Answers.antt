@@ -20,5 +20,5 @@ returns-clause-seats g c =
     let new = c.read_beside.new.apps in
     let many : c.args.seats.now.apps.len ≡ length new = search rules in
     let same = subst (λ (xs : List (SeatView CalmBank FirstByte)). AreSame xs new) c.as_mut_slice.ensures.value c.read_beside.ensures.apps in
-    subst (λ (l : List (SeatView CalmBank FirstByte)). AreSeats c.args.desk.now.service.of (ground ∷ l)) (sym (written c.args.seats.now.apps.len new (drop (length new) old) many))
+    subst (λ (l : List (SeatView CalmBank FirstByte)). AreSeats c.args.shared.now.service.of (ground ∷ l)) (sym (written c.args.seats.now.apps.len new (drop (length new) old) many))
     (still_seats _ _ _ c.requires.seats ground new c.read_beside.ensures.ground same.count same.each)

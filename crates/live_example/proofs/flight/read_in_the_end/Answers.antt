@@ -11,7 +11,7 @@ read_last-requires g c =
     let lent = c.index_mut-seat in
     let count = c.requires.seats.count in
     let within = c.requires.place in
-    record { app = subst (IsAppOf c.args.desk.now.service.of) (sym lent.ensures.value) (are_apps _ _ _ c.requires.seats c.args.place lent.result.now (omega (arith, count, within))) }
+    record { app = subst (IsAppOf c.args.shared.now.service.of) (sym lent.ensures.value) (are_apps _ _ _ c.requires.seats c.args.place lent.result.now (omega (arith, count, within))) }
 
 pub returns : goal.returns
 returns g c =

@@ -1,7 +1,7 @@
 use Rattle.std.proofs.Common.{[], ◌∙◌, ap, subst, w32}
 use Rattle.std.proofs.lemmas.Int.{to_z-of_z}
 use Rattle.handed_kit.specs.Answering.{Spoken, one_verdict, two_verdicts}
-use Rattle.table_requests.specs.Questions.{question_of}
+use Rattle.desk.specs.Questions.{question_of}
 use Rattle.validation.specs.Kits.{Hands}
 use Rattle.tbl_c.proofs.Stepping.{will_say_two}
 use Rattle.tbl_c.proofs.service.hand_two.Goals as goal

@@ -1,6 +1,6 @@
 use Rattle.std.proofs.Common.{List, refl, inl, subst}
 use Rattle.tbl_model.specs.Telemetry.{Question}
-use Rattle.table_requests.specs.Questions.{all_asked}
+use Rattle.desk.specs.Questions.{all_asked}
 use Rattle.validation.specs.Asked.{GivesEach}
 use Rattle.handed_kit.specs.Answering.{answer_of}
 use Rattle.tbl_fakes.specs.contracts.breaking_bank.BreakingBankBank.TheImpl.{ghosts}
@@ -26,8 +26,8 @@ returns-in-Ok-play c =
       on = on;
       played = played;
       said = λ may told opening past stands.
-          let judged = played.steps.judged told opening past (on.stands opening past stands) in
-          let same = asks.owners may told opening past stands played.entry played.steps.adds.actor_is played.steps.adds.request_is in
+          let judged = (played.steps.stepped past).judged told opening (on.stands opening past stands) in
+          let same = asks.owners may told opening past stands played.entry (played.steps.stepped past).adds.actor_is (played.steps.stepped past).adds.request_is in
           will_have_said handed.state.kit questions c.args.verdicts.now played.entry.given.verdicts c.hand_in.ensures.will
           (subst (λ (qs : List Question). GivesEach answer_of handed.state.kit qs played.entry.given.verdicts) same judged.gives);
     }))

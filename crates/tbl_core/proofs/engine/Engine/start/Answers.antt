@@ -21,7 +21,7 @@ invariant_of-result g c = record {
   kit = λ number entry there.
       let low = c.requires.asked number entry (subst (λ kit. entry_at kit number ≡ Some entry) c.in-Ok.ensures.kit there) in
       omega (arith, low);
-  images = no_images c.in-Ok.works.parts.tables c.in-Ok.ensures.tables;
+  images = no_images c.in-Ok.works.parts.desk.tables c.in-Ok.ensures.tables;
   numbers = rw c.in-Ok.ensures.counts none_counted;
   places = c.in-Ok.ensures.places;
 }
@@ -29,7 +29,7 @@ invariant_of-result g c = record {
 pub returns-in-Ok-boot-clause-after : goal.returns-in-Ok-boot-clause-after
 returns-in-Ok-boot-clause-after g c = record {
   played = sym c.in-Ok.ensures.played;
-  gets = λ handle h p within at pin. absurd (no_handle c.in-Ok.works.parts.tables handle h c.in-Ok.ensures.tables at);
+  gets = λ handle h p within at pin. absurd (no_handle c.in-Ok.works.parts.desk.tables handle h c.in-Ok.ensures.tables at);
 }
 
 pub returns-in-Ok-boot-clause-stands : goal.returns-in-Ok-boot-clause-stands
@@ -49,24 +49,24 @@ returns-in-Ok-boot-clause-stands g c =
       live = c.in-Ok.ensures.ended;
     })
     (λ told. subst (HasBlocks b.tells b.now c.boot.new.self) (ap (λ bank. store_of (b.now bank)) c.in-Ok.ensures.bank)
-    (subst (HasBlocks b.tells b.now c.boot.new.self) (booted_alike (b.now c.in-Ok.works.parts.store.bank) c.in-Ok-boot._found) (c.in-Ok-boot.ensures.ok told (store_of (b.now c.in-Ok.works.parts.store.bank)) (inr (told, refl)))))
+    (subst (HasBlocks b.tells b.now c.boot.new.self) (booted_alike (b.now c.in-Ok.works.parts.store.bank) c.in-Ok-boot._found) (c.in-Ok-boot.ensures.boots.ok told (store_of (b.now c.in-Ok.works.parts.store.bank)) (inr (told, refl)))))
 
 pub returns-in-Err-boot-clause-cause : goal.returns-in-Err-boot-clause-cause
 returns-in-Err-boot-clause-cause g c =
     let b = g.B.Bank in
     subst (λ bank. StartCounted b bank c.end.result c.from.result) c.in-Ok.ensures.bank
-    (rw (c.end.ensures.bank, c.from.ensures) (start_counted b c.in-Ok.works.parts.store.bank c.boot.new.self.bank c.boot.result c.in-Err-boot.fault c.in-Err-boot.is c.boot.ensures.counted))
+    (rw (c.end.ensures.bank, c.from.ensures) (start_counted b c.in-Ok.works.parts.store.bank c.boot.new.self.bank c.boot.result c.in-Err-boot.fault c.in-Err-boot.is c.boot.ensures.boots.counted))
 
 pub returns-in-Ok-boot-clause-crash : goal.returns-in-Ok-boot-clause-crash
 returns-in-Ok-boot-clause-crash g c told =
     let b = g.B.Bank in
-    start_leaves b c.in-Ok.works.parts.store c.boot.new.self c.args.bank c.in-Ok.ensures.bank c.boot.ensures.moments g.met.B.Bank.tells_both told
+    start_leaves b c.in-Ok.works.parts.store c.boot.new.self c.args.bank c.in-Ok.ensures.bank c.boot.ensures.boots.moments g.met.B.Bank.tells_both told
 
 pub returns-in-Err-boot-clause-crash_err : goal.returns-in-Err-boot-clause-crash_err
 returns-in-Err-boot-clause-crash_err g c told =
     let b = g.B.Bank in
     rw c.end.ensures.bank
-    (start_leaves b c.in-Ok.works.parts.store c.boot.new.self c.args.bank c.in-Ok.ensures.bank c.boot.ensures.moments g.met.B.Bank.tells_both told)
+    (start_leaves b c.in-Ok.works.parts.store c.boot.new.self c.args.bank c.in-Ok.ensures.bank c.boot.ensures.boots.moments g.met.B.Bank.tells_both told)
 
 pub returns-in-Err-clause-crash_err : goal.returns-in-Err-clause-crash_err
 returns-in-Err-clause-crash_err g c told =
@@ -78,10 +78,10 @@ pub returns-in-Ok-boot-clause-asked : goal.returns-in-Ok-boot-clause-asked
 returns-in-Ok-boot-clause-asked g c told =
     let b = g.B.Bank in
     subst (λ (bank : g.row.B.Denot). BootAsks b (Some Processor) bank c.boot.new.self.bank true) c.in-Ok.ensures.bank
-    (subst (λ (done : Bool). BootAsks b (Some Processor) c.in-Ok.works.parts.store.bank c.boot.new.self.bank done) (ap is_ok c.in-Ok-boot.is) (c.boot.ensures.bank_calls told))
+    (subst (λ (done : Bool). BootAsks b (Some Processor) c.in-Ok.works.parts.store.bank c.boot.new.self.bank done) (ap is_ok c.in-Ok-boot.is) (c.boot.ensures.boots.bank_calls told))
 
 pub returns-in-Err-boot-clause-asked_err : goal.returns-in-Err-boot-clause-asked_err
 returns-in-Err-boot-clause-asked_err g c other told =
     let b = g.B.Bank in
     rw c.end.ensures.bank (subst (λ (bank : g.row.B.Denot). BootAsks b (Some Processor) bank c.boot.new.self.bank false) c.in-Ok.ensures.bank
-    (subst (λ (done : Bool). BootAsks b (Some Processor) c.in-Ok.works.parts.store.bank c.boot.new.self.bank done) (ap is_ok c.in-Err-boot.is) (c.boot.ensures.bank_calls told)))
+    (subst (λ (done : Bool). BootAsks b (Some Processor) c.in-Ok.works.parts.store.bank c.boot.new.self.bank done) (ap is_ok c.in-Err-boot.is) (c.boot.ensures.boots.bank_calls told)))

@@ -67,7 +67,7 @@ pub returns-in-Register-clause-makes : goal.returns-in-Register-clause-makes
 returns-in-Register-clause-makes g c =
     let b = g.B.Bank in
     three c.register.result _ _ _ _ c.register.ensures.call c.register.ensures.fit c.register.ensures.one (λ done call fit one. call_makes b g.C.Validator _ _ c.args.request.now done refl c.requires.live call
-    (λ n was. fit (state_of (parts_view c.args.self.now)) n refl refl was) (registers_keeps c.args.self.now.tables c.register.new.tables c.args.app one) (store_no_get c.args.request.now c.requires.calls))
+    (λ n was. fit (state_of (parts_view c.args.self.now)) n refl refl was) (registers_keeps c.args.self.now.desk.tables c.register.new.tables c.args.app one) (store_no_get c.args.request.now c.requires.calls))
 
 pub returns-in-Register-clause-meets : goal.returns-in-Register-clause-meets
 returns-in-Register-clause-meets g c =

@@ -1,5 +1,7 @@
 use Rattle.std.proofs.Common.{◌≡◌, ◌∙◌, Ok, Err, sym, ap, subst, refl, arith, rules}
-use Rattle.store_requests.proofs.Both.{three}
+use Rattle.std.proofs.lemmas.Result.{IfOk-weaker}
+use Rattle.desk.specs.Desk.{output}
+use Rattle.tbl_core.specs.Owned.{commanded}
 use Rattle.store_requests.proofs.Moments.{uncalled_leaves}
 use Rattle.store_requests.specs.Called.{IsCall, Calls, with_boot}
 use Rattle.cmd_packets.specs.Views.{command_of}
@@ -11,7 +13,8 @@ use Rattle.tbl_model.specs.AppBlocks.{delete_cds_effect}
 use Rattle.request_effects.specs.Requests.{read_of}
 use Rattle.request_effects.specs.Effects.{Effect, reported_effect}
 use Rattle.tbl_core.specs.Service.{parts_view}
-use Rattle.tbl_core.proofs.Commanding.{command_does, refused_does}
+use Rattle.tbl_core.proofs.Commanding.{refused_does}
+use Rattle.tbl_core.proofs.Served.{made_of, kept_of, command_does}
 use Rattle.tbl_core.proofs.StoreRequests.{block_makes, block_meets}
 use Rattle.tbl_core.proofs.Restoring.{delete_cds_holds}
 use Rattle.tbl_core.proofs.TableRequests.{table_makes, table_meets}
@@ -53,14 +56,19 @@ pub returns-in-Ok : goal.returns-in-Ok
 returns-in-Ok g c =
     let b = g.B.Bank in
     let v = g.C.Validator in
+    let store = c.args.self.now.store in
+    let ended = c.args.self.now.ended in
+    let old = c.args.self.now.desk in
+    let new = c.commanded.new.desk in
+    let out = output c.commanded.new.reply c.commanded.new.report in
+    let read = command_of c.in-Ok.command in
+    let made = made_of v (commanded read) old new out c.commanded.result c.commanded.ensures.served in
     rw c.requires.untouched (record {
-      makes = three c.ground_command.result _ _ _ _ c.ground_command.ensures.effect c.ground_command.ensures.within c.ground_command.ensures.given (λ answer effect within given packet is.
-          table_makes b v 4 _ _ Ground (ask.Command packet) _ (command_does v _ _ packet (Ok (command_of c.in-Ok.command)) (sym (ap read_of c.in-Ok.is) ∙ is) _
-          (λ s stood. effect s stood.tables stood.pending stood.drawer stood.admit stood.seconds stood.sub) within given refl) (omega arith) c.requires.ready refl);
-      meets = three c.ground_command.result _ _ _ _ c.ground_command.ensures.effect c.ground_command.ensures.within c.ground_command.ensures.given (λ answer effect within given packet is.
-          table_meets b v 4 _ _ Ground (ask.Command packet) _ (command_does v _ _ packet (Ok (command_of c.in-Ok.command)) (sym (ap read_of c.in-Ok.is) ∙ is) _
-          (λ s stood. effect s stood.tables stood.pending stood.drawer stood.admit stood.seconds stood.sub) within given refl) (omega arith) c.requires.ready
-          (λ told blocks stands. uncalled_leaves b g.met.B.Bank.leaves_only_now g.met.B.Bank.only_now c.args.self.now.store _ blocks refl (stands.shows told)) refl);
-      room = c.ground_command.ensures.room;
-      err = search rules;
+      makes = IfOk-weaker c.commanded.result _ _ (λ answer made packet is.
+          table_makes b v 4 _ _ Ground (ask.Command packet) _ (command_does v old new out store ended answer packet read (sym (ap read_of c.in-Ok.is) ∙ is) made) (omega arith) c.requires.ready refl) made;
+      meets = IfOk-weaker c.commanded.result _ _ (λ answer made packet is.
+          table_meets b v 4 _ _ Ground (ask.Command packet) _ (command_does v old new out store ended answer packet read (sym (ap read_of c.in-Ok.is) ∙ is) made) (omega arith) c.requires.ready
+          (λ told blocks stands. uncalled_leaves b g.met.B.Bank.leaves_only_now g.met.B.Bank.only_now store _ blocks refl (stands.shows told)) refl) made;
+      room = IfOk-weaker c.commanded.result _ _ (λ answer made. made.room) made;
+      err = kept_of v store ended (commanded read) old new out c.commanded.result c.commanded.ensures.served;
     })

@@ -1,6 +1,6 @@
 use Rattle.std.proofs.Common.{[], subst, refl, arith}
 use Rattle.store_requests.proofs.Moments.{uncalled_leaves}
-use Rattle.table_requests.proofs.Places.{some_is}
+use Rattle.validation.proofs.Ready.{some_is}
 use Rattle.tbl_kinds.specs.Notes.{untouched}
 use Rattle.tbl_kinds.specs.declared.request.Actor.TheVariants.{App}
 use Rattle.tbl_model.specs.Tables.{table_at}
@@ -19,7 +19,7 @@ use Rattle.tbl_core.proofs.parts.Parts.owner.Goals as goal
 pub told_call-requires-clause-leads : goal.told_call-requires-clause-leads
 told_call-requires-clause-leads g c =
     let row = c.in-Ok.row in
-    let t = some_is (table_at c.args.self.now.tables row) c.in-Ok.ensures.table in
+    let t = some_is (table_at c.args.self.now.desk.tables row) c.in-Ok.ensures.table in
     rw c.requires.actor (leads_to (parts_view c.args.self.now) c.args.app c.args.handle row c.args.entry.now.request (told_owners c.args.entry.now.request c.args.handle c.requires.asks) t.0 t.1
     (λ s stood effect. c.in-Ok.ensures.ok s effect stood.tables stood.apps))
 
@@ -42,7 +42,7 @@ returns-in-Err g c =
         request_is = refl;
         made = made_plainly b v old old request (λ s given. app_effect s c.args.app request given) (quiet_effect answer []) makes meets refl;
         told = subst (λ (r : Reported). Tells (counts_view c.args.counters.now) (counts_view c.tell_call.new.counters)
-            (told_at c.args.self.now.clock.seconds c.args.self.now.clock.sub c.args.self.now.tables request (reported_effect answer [] r untouched)) c.tell_call.new.packets.list) c.requires.nothing (c.tell_call.ensures.tells [] untouched);
+            (told_at c.args.self.now.desk.clock.seconds c.args.self.now.desk.clock.sub c.args.self.now.desk.tables request (reported_effect answer [] r untouched)) c.tell_call.new.packets.list) c.requires.nothing (c.tell_call.ensures.tells [] untouched);
         small = record { bytes = omega arith; packets = c.tell_call.ensures.len };
       };
     })

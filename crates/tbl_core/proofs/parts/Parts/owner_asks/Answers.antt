@@ -3,7 +3,7 @@ use Rattle.std.proofs.lemmas.Result.{IfOk-weaker}
 use Rattle.tbl_kinds.specs.declared.request.Actor.TheVariants.{App}
 use Rattle.tbl_model.specs.Tables.{table_at}
 use Rattle.tbl_model.specs.Telemetry.{Question}
-use Rattle.table_requests.proofs.Places.{some_is}
+use Rattle.validation.proofs.Ready.{some_is}
 use Rattle.tbl_core.specs.Asking.{AsksIn}
 use Rattle.tbl_core.specs.Service.{parts_view}
 use Rattle.tbl_core.proofs.Owners.{leads_to}
@@ -12,7 +12,7 @@ use Rattle.tbl_core.proofs.parts.Parts.owner_asks.Goals as goal
 
 pub returns-in-Ok-clause-asks : goal.returns-in-Ok-clause-asks
 returns-in-Ok-clause-asks g c =
-    let t = some_is (table_at c.args.self.now.tables c.in-Ok.row) c.in-Ok.ensures.table in
+    let t = some_is (table_at c.args.self.now.desk.tables c.in-Ok.row) c.in-Ok.ensures.table in
     IfOk-weaker c.row_asks.result _ _ (λ it is. is (App c.args.app) (leads_to (parts_view c.args.self.now) c.args.app c.args.handle c.in-Ok.row c.args.request.now c.requires.owners t.0 t.1
     (λ s stood effect. c.in-Ok.ensures.ok s effect stood.tables stood.apps))) c.row_asks.ensures.asks
 

@@ -19,7 +19,7 @@ returns g c =
     let done = noted_effect c.effect.inside.answer c.effect.inside.bytes.list c.effect.inside.note in
     let makes = subst (λ (e : Effect). Makes b v (ask.Reset kind) old new e) (sym c.effect.view_is) c.in_ok-effect.ensures.makes in
     let meets = subst (λ (e : Effect). Meets b v (step_of old new (ask.Reset kind)) (λ s given. Some (reset_effect s kind given.note)) e) (sym c.effect.view_is) c.in_ok-effect.ensures.meets in
-    let t = told_at c.args.self.now.clock.seconds c.args.self.now.clock.sub c.reset.new.self.tables (ask.Reset kind) done in
+    let t = told_at c.args.self.now.desk.clock.seconds c.args.self.now.desk.clock.sub c.reset.new.self.desk.tables (ask.Reset kind) done in
     rw (c.of.ensures, c.reset.ensures.report, c.requires.nothing, c.put_answer.ensures, c.requires.actor, c.in-Reset.is, c.requires.stands.begun.reply.no_packets) (record {
       answered = record {
         actor_is = refl;

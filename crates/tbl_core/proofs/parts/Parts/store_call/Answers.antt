@@ -27,7 +27,7 @@ returns g c =
         request_is = refl;
         made = made;
         told = subst (λ (r : Reported). Tells (counts_view c.args.counters.now) (counts_view c.tell_call.new.counters)
-            (told_at c.args.self.now.clock.seconds c.args.self.now.clock.sub c.boot_if_stopped.new.self.tables request (reported_effect c.effect.inside.answer c.effect.inside.bytes.list r c.boot_if_stopped.new.note)) c.tell_call.new.packets.list)
+            (told_at c.args.self.now.desk.clock.seconds c.args.self.now.desk.clock.sub c.boot_if_stopped.new.self.desk.tables request (reported_effect c.effect.inside.answer c.effect.inside.bytes.list r c.boot_if_stopped.new.note)) c.tell_call.new.packets.list)
             (boot.report ∙ c.app_store_request.ensures.report ∙ c.requires.nothing) (c.tell_call.ensures.tells c.effect.inside.bytes.list c.boot_if_stopped.new.note);
         small = record { bytes = makes.within.bytes; packets = c.tell_call.ensures.len };
       };

@@ -1,6 +1,6 @@
 use Rattle.std.proofs.Common.{Some, ap, refl, rules}
 use Rattle.store_requests.proofs.Both.{both}
-use Rattle.table_requests.proofs.Places.{some_is}
+use Rattle.validation.proofs.Ready.{some_is}
 use Rattle.tbl_kinds.specs.declared.request.Request.TheVariants as ask
 use Rattle.tbl_model.specs.Tables.{table_at}
 use Rattle.tbl_model.specs.Effects.{Effect}
@@ -26,7 +26,7 @@ returns-in-GetInfo-clause-does g c = both c.get_info.result _ _ _ c.get_info.ens
 pub returns-in-Ok-clause-does : goal.returns-in-Ok-clause-does
 returns-in-Ok-clause-does g c =
     let row = c.in-Ok.row in
-    let t = some_is (table_at c.args.self.now.tables row) c.in-Ok.ensures.table in
+    let t = some_is (table_at c.args.self.now.desk.tables row) c.in-Ok.ensures.table in
     rw (c.requires.empty, c.in-DumpToBuffer.is) (owner_answered g.C.Validator _ _ c.args.app c.in-DumpToBuffer.handle row (ask.DumpToBuffer c.in-DumpToBuffer.handle) refl refl t.0 t.1
     (λ s stood effect. c.in-Ok.ensures.ok s effect stood.tables stood.apps) c.dump_to_buffer.result (λ s. record s { tables = c.dump_to_buffer.new.tables })
     (λ s stood. ap (λ (e : Effect). Some e) (c.dump_to_buffer.ensures s stood.tables t.0 t.1))
@@ -41,7 +41,7 @@ pub returns-in-Ok-check-clause-does : goal.returns-in-Ok-check-clause-does
 returns-in-Ok-check-clause-does g c =
     let row = c.in-Ok-check.row in
     let r = c.in-Edit in
-    let t = some_is (table_at c.args.self.now.tables row) c.in-Ok-check.ensures.table in
+    let t = some_is (table_at c.args.self.now.desk.tables row) c.in-Ok-check.ensures.table in
     rw (c.requires.empty, c.in-Edit.is) (both c.edit.result _ _ _ c.edit.ensures.effect c.edit.ensures.effect (λ answer done also. owner_answered g.C.Validator _ _ c.args.app r.handle row (ask.Edit r.handle r.offset r.piece) refl refl t.0 t.1
     (λ s stood effect. c.in-Ok-check.ensures.ok s effect stood.tables stood.apps) answer (λ s. record s { tables = c.edit.new.tables })
     (λ s stood. rw (← c.bytes.ensures) (ap (λ (e : Effect). Some e) (done s stood.tables t.0 t.1)))
@@ -57,7 +57,7 @@ pub returns-in-Ok-check-2-clause-does : goal.returns-in-Ok-check-2-clause-does
 returns-in-Ok-check-2-clause-does g c =
     let row = c.in-Ok-check-2.row in
     let r = c.in-Notify in
-    let t = some_is (table_at c.args.self.now.tables row) c.in-Ok-check-2.ensures.table in
+    let t = some_is (table_at c.args.self.now.desk.tables row) c.in-Ok-check-2.ensures.table in
     rw (c.requires.empty, c.in-Notify.is) (owner_answered g.C.Validator _ _ c.args.app r.handle row (ask.Notify r.handle r.msg r.code r.parameter) refl refl t.0 t.1
     (λ s stood effect. c.in-Ok-check-2.ensures.ok s effect stood.tables stood.apps) c.notify.result (λ s. record s { tables = c.notify.new.tables })
     (λ s stood. ap (λ (e : Effect). Some e) (c.notify.ensures s stood.tables))

@@ -1,9 +1,0 @@
-use Rattle.std.proofs.Common.{refl}
-use Rattle.dump_control.proofs.Keeping.{pending_stay, loads_stay}
-use Rattle.dump_control.proofs.requests.ask.Goals as goal
-
-pub returns-clause-pending : goal.returns-clause-pending
-returns-clause-pending c = λ pending all. rw c.ask_dump.ensures (pending_stay c.args.tables.now c.args.row _ (record { function = λ t. refl; images = λ t some. some; load = λ t. refl; activation = λ t. refl }) pending all)
-
-pub returns-clause-loads : goal.returns-clause-loads
-returns-clause-loads c = λ all. rw c.ask_dump.ensures (loads_stay c.args.tables.now c.args.row _ (record { function = λ t. refl; images = λ t some. some; load = λ t. refl; activation = λ t. refl }) all)

@@ -1,3 +1,0 @@
-pub mod Managing
-pub mod Missing
-pub mod Refusing
