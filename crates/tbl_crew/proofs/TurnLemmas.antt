@@ -7,8 +7,8 @@ use Rattle.tbl_kinds.specs.Requests.{Fits}
 use Rattle.tbl_kinds.specs.Transcript.{pairs_of}
 use Rattle.tbl_kinds.specs.declared.entry.Entry.{Entry}
 use Rattle.tbl_kinds.specs.declared.request.Request.{Request}
-use Rattle.tbl_model.specs.State.{State}
-use Rattle.tbl_core.specs.Service.{CoreView, AddsOne, Vouches, FollowsFrom}
+use Rattle.tbl_core.specs.Service.{CoreView, AddsOne}
+use Rattle.tbl_core.specs.Stepped.{Stepped}
 use Rattle.tbl_core.specs.declared.service.StepFault.{StepFault}
 use Rattle.tbl_core.specs.declared.service.StepFault.TheVariants.{Memory, BootFault, BootStopped}
 use Rattle.tbl_crew.specs.CrewView.{CrewView, MayGoOn, TellsFault}
@@ -19,17 +19,12 @@ use Rattle.tbl_crew.specs.Scripts.{script_of, request_count}
 use Rattle.tbl_crew.specs.Turns.{Takes}
 use Rattle.tbl_crew.proofs.ScriptLemmas as scripts
 use Rattle.tbl_outside.specs.declared.bank.Bank.{Ghosts}
+use Rattle.tbl_outside.specs.declared.validator.Validator.{Ghosts as ValidatorGhosts}
 use Rattle.tbl_history.specs.Serving.{Serves}
 use Rattle.tbl_history.proofs.Laws.{Laws}
-use Rattle.tbl_history.proofs.ServingLemmas.{serves_on, step_continues}
+use Rattle.tbl_history.proofs.ServingLemmas.{serves_on, adds_one, stepped_continues}
 use Rattle.tbl_history.proofs.TroubleLemmas.{ends_in_fault, ends_in_stop}
 use Rattle.tbl_core.specs.Ended.{OnPlayed}
-use Rattle.tbl_session.specs.Restores.{RestoresHeld}
-use Rattle.tbl_session.specs.Crashes.{all_calls_in, AfterCrash}
-use Rattle.tbl_model.specs.History.{begins_at, run_from}
-use Rattle.tbl_outside.specs.Bank.{LeavesOnly}
-use Rattle.tbl_outside.specs.declared.validator.KitEntry.{KitEntry}
-use Rattle.cds_layout.specs.Images.{store_of}
 
 -- a step that answered this
 abbrev failed : StepFault → Result Unit StepFault
@@ -114,51 +109,45 @@ lacks_one old new actor request takes went scripts was = (
       ∙ ap (λ (l : List Request). part actor (pairs_of old.core.entries) ++ l) takes.next,
 )
 
-module _ {B C : Type 0} (g : Ghosts B) (laws : Laws g) (verdict : C → List ℕ → ℤ) (old new : CrewView B C) (actor : ℕ) (request : Request) (goes_on : MayGoOn old) (within : actor < 17) (takes : Takes old new actor request) (went : old.fault ≡ None) where
+module _ {B C : Type 0} (g : Ghosts B) (laws : Laws g) (v : ValidatorGhosts C) (old new : CrewView B C) (actor : ℕ) (request : Request) (goes_on : MayGoOn old) (within : actor < 17) (takes : Takes old new actor request) (went : old.fault ≡ None) where
   abbrev Leads : Opening B C → List (List Request) → CrewView B C → Type 0
-  Leads o scripts h = LeadsFrom g verdict o scripts h
+  Leads o scripts h = LeadsFrom g v.verdict o scripts h
 
-  abbrev Legal : Type 0
-  Legal = (opening : State) → FollowsFrom g opening old.core → FollowsFrom g opening new.core
+  abbrev HasStepped : Result Unit StepFault → Type 0
+  HasStepped result = (e : Entry) × Stepped g v old.core new.core (actor_of actor, request) e result
 
-  abbrev Verdicts : Type 0
-  Verdicts = (opening : State) (given : List (Option (KitEntry C))) → Vouches g verdict given opening old.core → Vouches g verdict given opening new.core
+  adds : (result : Result Unit StepFault) → HasStepped result → AddsOne g old.core new.core (actor_of actor) request result
+  adds result step = adds_one g v old.core new.core (actor_of actor) request result step
 
-  abbrev Crash : Type 0
-  Crash = g.tells_moments → (opening : State) → FollowsFrom g opening old.core → LeavesOnly g.clock g.left_since old.core.state.store.bank new.core.state.store.bank (λ image. AfterCrash opening new.core.entries (length old.core.entries) (store_of image))
-
-  abbrev Gave : Type 0
-  Gave = (e : Entry) × (new.core.entries ≡ old.core.entries ++ e ∷ []) × (g.tells → (opening : State) → FollowsFrom g opening old.core → RestoresHeld (g.now old.core.state.store.bank) (all_calls_in (run_from (begins_at opening) old.core.entries) e) (run_from (begins_at opening) old.core.entries).state.store e.given.note)
-
-  lead_on : (result : Result Unit StepFault) → AddsOne g old.core new.core (actor_of actor) request result → Legal → Verdicts → Crash → Gave
+  lead_on : (result : Result Unit StepFault) → HasStepped result
       → ((scripts : List (List Request)) → ArePlayed old.fault scripts old.core.entries old.left → ArePlayed new.fault scripts new.core.entries new.left)
       → ((scripts : List (List Request)) → LacksAfter new.fault scripts new.core.entries)
       → (o : Opening B C) (scripts : List (List Request)) → Leads o scripts old → Leads o scripts new
-  lead_on result one legal verdicts crash gave played lacks o given was = record {
-    serves = serves_on g verdict o old.core new.core (step_continues g laws verdict old.core new.core (goes_live old goes_on went) (actor_of actor) request result one legal verdicts crash gave) was.serves;
+  lead_on result step played lacks o given was = record {
+    serves = serves_on g v.verdict o old.core new.core (stepped_continues g v old.core new.core (actor_of actor) request result laws (goes_live old goes_on went) step) was.serves;
     played = played given was.played;
     lacks = lacks given;
-    actors = subst (λ (es : List Entry). HaveActors (pairs_of es)) (sym one.added) (scripts.actors-push old.core.entries one.entry actor one.actor_is was.actors);
+    actors = subst (λ (es : List Entry). HaveActors (pairs_of es)) (sym step.1.adds.added) (scripts.actors-push old.core.entries step.0 actor step.1.adds.actor_is was.actors);
   }
 
   lacks_none : (fault : Option StepFault) → fault ≡ None → (scripts : List (List Request)) (entries : List Entry) → LacksAfter fault scripts entries
   lacks_none fault is scripts entries = subst (λ (f : Option StepFault). LacksAfter f scripts entries) (sym is) tt
 
-  pub leads_on : new.fault ≡ None → AddsOne g old.core new.core (actor_of actor) request (Ok tt) → Legal → Verdicts → Crash → Gave → (o : Opening B C) (scripts : List (List Request)) → Leads o scripts old → Leads o scripts new
-  leads_on goes one legal verdicts crash gave = lead_on (Ok tt) one legal verdicts crash gave (λ given was. played_on g old new actor request goes_on within takes given went was one goes) (λ given. lacks_none new.fault goes given new.core.entries)
+  pub leads_on : new.fault ≡ None → HasStepped (Ok tt) → (o : Opening B C) (scripts : List (List Request)) → Leads o scripts old → Leads o scripts new
+  leads_on goes step = lead_on (Ok tt) step (λ given was. played_on g old new actor request goes_on within takes given went was (adds (Ok tt) step) goes) (λ given. lacks_none new.fault goes given new.core.entries)
 
   lead_same : new.fault ≡ Some Memory → new.core ≡ old.core → (o : Opening B C) (scripts : List (List Request)) → Leads o scripts old → Leads o scripts new
   lead_same is same o given was = record {
-    serves = subst (λ (c : CoreView B C). Serves g verdict o c) (sym same) was.serves;
+    serves = subst (λ (c : CoreView B C). Serves g v.verdict o c) (sym same) was.serves;
     played = played_none g old new actor request goes_on within takes given went was.played Memory same is;
     lacks = subst (λ (f : Option StepFault). LacksAfter f given new.core.entries) (sym is) (subst (λ (c : CoreView B C). LacksOne given c.entries) (sym same) (lacks_one old new actor request takes went given was.played));
     actors = subst (λ (c : CoreView B C). HaveActors (pairs_of c.entries)) (sym same) was.actors;
   }
 
-  pub leads_broken : (fault : StepFault) → new.fault ≡ Some fault → OnPlayed (Err fault) (AddsOne g old.core new.core (actor_of actor) request (Err fault)) → OnPlayed (Err fault) Legal → OnPlayed (Err fault) Verdicts → OnPlayed (Err fault) Crash → OnPlayed (Err fault) Gave
+  pub leads_broken : (fault : StepFault) → new.fault ≡ Some fault → OnPlayed (Err fault) (HasStepped (Err fault))
       → (failed fault ≡ Err Memory → new.core ≡ old.core) → (o : Opening B C) (scripts : List (List Request)) → Leads o scripts old → Leads o scripts new
-  leads_broken Memory is one legal verdicts crash gave same = lead_same is (same refl)
-  leads_broken BootFault is one legal verdicts crash gave same = lead_on (Err BootFault) one legal verdicts crash gave (λ given was. played_last g old new actor request goes_on within takes given went was BootFault one is)
+  leads_broken Memory is step same = lead_same is (same refl)
+  leads_broken BootFault is step same = lead_on (Err BootFault) step (λ given was. played_last g old new actor request goes_on within takes given went was BootFault (adds (Err BootFault) step) is)
       (λ given. subst (λ (f : Option StepFault). LacksAfter f given new.core.entries) (sym is) tt)
-  leads_broken BootStopped is one legal verdicts crash gave same = lead_on (Err BootStopped) one legal verdicts crash gave (λ given was. played_last g old new actor request goes_on within takes given went was BootStopped one is)
+  leads_broken BootStopped is step same = lead_on (Err BootStopped) step (λ given was. played_last g old new actor request goes_on within takes given went was BootStopped (adds (Err BootStopped) step) is)
       (λ given. subst (λ (f : Option StepFault). LacksAfter f given new.core.entries) (sym is) tt)

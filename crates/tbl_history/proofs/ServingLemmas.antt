@@ -11,12 +11,16 @@ use Rattle.tbl_laws.proofs.WholeLaws.{whole}
 use Rattle.tbl_outside.specs.Bank.{LeavesOnly}
 use Rattle.tbl_outside.specs.declared.bank.Bank.{Ghosts}
 use Rattle.tbl_outside.specs.declared.validator.KitEntry.{KitEntry}
+use Rattle.tbl_outside.specs.declared.validator.Validator.{Ghosts as ValidatorGhosts}
 use Rattle.cds_layout.specs.Images.{store_of}
 use Rattle.tbl_session.specs.Crashes.{AfterCrash, all_calls_in}
 use Rattle.tbl_session.specs.Openings.{Opening}
 use Rattle.tbl_session.specs.Restores.{RestoresHeld}
 use Rattle.tbl_session.specs.Served.{IsServed}
+use Rattle.tbl_core.specs.Ended.{OnPlayed}
 use Rattle.tbl_core.specs.Service.{CoreView, AddsOne, FollowsFrom, Vouches}
+use Rattle.tbl_core.specs.Stepped.{Stepped}
+use Rattle.tbl_core.proofs.Steps.{on_played}
 use Rattle.tbl_core.specs.declared.service.StepFault.{StepFault}
 use Rattle.tbl_core.proofs.Keeping.{keeps}
 use Rattle.std.proofs.Common.{Option}
@@ -81,3 +85,27 @@ module _ {B C : Type 0} (g : Ghosts B) (laws : Laws g) (verdict : C → List ℕ
     survives = λ opening bank was. survives_on g laws opening bank old new one.entry one.added one.ended live legal crash gave was;
     caused = λ bank was. caused_on g bank old new actor request result one was;
   }
+
+module _ {B C : Type 0} (g : Ghosts B) (v : ValidatorGhosts C) (old new : CoreView B C) (actor : Actor) (request : Request) (result : Result Unit StepFault) where
+  -- a step of the core that was played
+  abbrev HasStepped : Type 0
+  HasStepped = (e : Entry) × Stepped g v old new (actor, request) e result
+
+  -- adds its entry
+  pub adds_one : HasStepped → AddsOne g old new actor request result
+  adds_one step =
+      let adds = step.1.adds in
+      record { entry = step.0; actor_is = adds.actor_is; request_is = adds.request_is; added = adds.added; ended = adds.ended; ends = adds.ends; trouble = adds.trouble; cause = adds.cause }
+
+  pub played_adds : OnPlayed result HasStepped → OnPlayed result (AddsOne g old new actor request result)
+  played_adds played = on_played result adds_one played
+
+  -- and goes on with all that a core keeps to
+  module _ (laws : Laws g) (live : old.state.ended ≡ false) where
+    pub stepped_continues : HasStepped → Continues g v.verdict old new
+    stepped_continues step =
+        let s = step.1 in
+        step_continues g laws v.verdict old new live actor request result (adds_one step) s.legal s.verdicts s.crash (step.0, s.adds.added, s.gave)
+
+    pub played_continues : OnPlayed result HasStepped → OnPlayed result (Continues g v.verdict old new)
+    played_continues played = on_played result stepped_continues played

@@ -14,13 +14,15 @@ use Rattle.tbl_core.specs.Log.{IsSmall}
 use Rattle.tbl_core.specs.Service.{EngineView, AddsOne, PinsOnward, core_of, IsAfter, IsOfPin, IsLimit, recounted, engine_limit, image_limit}
 use Rattle.tbl_core.specs.declared.service.StepFault.{StepFault}
 use Rattle.tbl_core.proofs.Steps.{on_played}
-use Rattle.tbl_core.proofs.Stepping.{still_after, core_adds, core_legal, core_verdicts, core_crash, core_gave, core_pins}
+use Rattle.tbl_core.specs.Stepped.{Stepped}
+use Rattle.tbl_core.proofs.Stepping.{still_after, stepped, pins}
 use Rattle.tbl_core.specs.declared.service.StepFault.TheVariants.{Memory as NoMemory, BootFault, BootStopped}
 use Rattle.tbl_history.specs.Serving.{Continues}
 use Rattle.tbl_history.proofs.Laws.{Laws}
 use Rattle.tbl_live.specs.Lasting.{IsLasting}
 use Rattle.tbl_live.specs.Bounds.{lasting_bound}
-use Rattle.tbl_live.proofs.StepLemmas.{is_last, continues_on}
+use Rattle.tbl_history.proofs.ServingLemmas.{played_adds, played_continues}
+use Rattle.tbl_live.proofs.StepLemmas.{is_last}
 
 abbrev pub firsts : List (Entry × Unit {0}) → List Entry
 firsts items = map (λ item. item.0) items
@@ -51,26 +53,23 @@ module _ {B C : Type 0} (g : Ghosts B) (v : ValidatorGhosts C) (past : List Entr
           (ap Some same, subst IsSmall same (small result steps played));
     } where
       small : (r : Result Unit StepFault) → OnPlayed r (Steps g v old new (actor, request) e r) → (r ≡ Err NoMemory → ⊥) → IsSmall e
-      small (Ok x) steps played = steps.adds.small
+      small (Ok x) steps played = (steps.stepped past).adds.small
       small (Err NoMemory) steps played = absurd (played refl)
-      small (Err BootFault) steps played = steps.adds.small
-      small (Err BootStopped) steps played = steps.adds.small
+      small (Err BootFault) steps played = (steps.stepped past).adds.small
+      small (Err BootStopped) steps played = (steps.stepped past).adds.small
 
-    -- and goes on from whatever the core represented
+    -- and does all that a step of a core promises
+    lasting_steps : OnPlayed result ((x : Entry) × Stepped g v (core_of past old) (core_of more new) (actor, request) x result)
+    lasting_steps = on_played result (λ d. stepped g v past more old new actor request result d) entered
+
     pub lasting_continues : Laws g → old.state.ended ≡ false → OnPlayed result (Continues g v.verdict (core_of past old) (core_of more new))
-    lasting_continues laws live =
-        continues_on g laws v.verdict (core_of past old) (core_of more new) live actor request result
-        (on_played result (λ d. core_adds g v past more old new actor request result d) entered)
-        (on_played result (λ d. core_legal g v past more old new actor request result d) entered)
-        (on_played result (λ d. core_verdicts g v past more old new actor request result d) entered)
-        (on_played result (λ d. core_crash g v past more old new actor request result d) entered)
-        (on_played result (λ d. core_gave g v past more old new actor request result d) entered)
+    lasting_continues laws live = played_continues g v (core_of past old) (core_of more new) actor request result laws live lasting_steps
 
     pub lasting_adds : OnPlayed result (AddsOne g (core_of past old) (core_of more new) actor request result)
-    lasting_adds = on_played result (λ d. core_adds g v past more old new actor request result d) entered
+    lasting_adds = played_adds g v (core_of past old) (core_of more new) actor request result lasting_steps
 
     pub lasting_pins : IsAfter past old → OnPlayed result (PinsOnward (core_of past old) (core_of more new))
-    lasting_pins was = on_played result (λ d. core_pins g v past more old new actor request result d was) entered
+    lasting_pins was = on_played result (λ d. pins g v past more old new actor request result d was) entered
 
 -- a pin of the core may still be one of the engine
 pub still_pin : {B C : Type 0} (past : List Entry) (engine : EngineView B C) (pin : Pin) → IsOfPin pin (core_of past engine) → MayStillPin pin engine

@@ -7,14 +7,7 @@ use Rattle.tbl_kinds.specs.Requests.{Fits}
 use Rattle.tbl_kinds.specs.declared.entry.Entry.{Entry}
 use Rattle.tbl_kinds.specs.declared.request.Actor.{Actor}
 use Rattle.tbl_kinds.specs.declared.request.Request.{Request}
-use Rattle.tbl_model.specs.History.{begins_at, run_from}
-use Rattle.tbl_model.specs.State.{State}
-use Rattle.tbl_session.specs.Crashes.{AfterCrash, all_calls_in}
-use Rattle.tbl_session.specs.Restores.{RestoresHeld}
-use Rattle.cds_layout.specs.Images.{store_of}
-use Rattle.tbl_outside.specs.Bank.{LeavesOnly}
 use Rattle.tbl_outside.specs.declared.bank.Bank.{Ghosts}
-use Rattle.tbl_outside.specs.declared.validator.KitEntry.{KitEntry}
 use Rattle.tbl_kinds.specs.declared.note.BankNote.{BankNote}
 use Rattle.request_effects.specs.Effects.{reply_limit}
 use Rattle.tbl_core.specs.Ended.{OnPlayed, session_end}
@@ -24,8 +17,7 @@ use Rattle.tbl_core.proofs.Lending.{pin_stays}
 use Rattle.tbl_core.specs.declared.service.StepFault.{StepFault}
 use Rattle.tbl_core.specs.declared.service.StepFault.TheVariants.{Memory as NoMemory, BootFault, BootStopped}
 use Rattle.tbl_history.specs.Serving.{Continues}
-use Rattle.tbl_history.proofs.Laws.{Laws}
-use Rattle.tbl_history.proofs.ServingLemmas.{continues_same, step_continues}
+use Rattle.tbl_history.proofs.ServingLemmas.{continues_same}
 use Rattle.tbl_history.proofs.TroubleLemmas.{ends_in_fault, ends_in_stop}
 use Rattle.tbl_live.specs.Answers.{receipt_of, MayStep, Adds, IsRefusal, TakesLast, IsOutcome, kept_of, Answers}
 use Rattle.tbl_live.specs.Bounds.{Bound}
@@ -74,27 +66,6 @@ same_view old new core fault base = λ i. record { core = core i; fault = fault 
 ended_by : (fault : StepFault) (note : BankNote) (ended : Bool) → note.ended ≡ ended → Err fault ≡ session_end note → note.ended ≡ true
 ended_by fault note true is e = is
 ended_by fault note false is e = let other : session_end note ≡ Ok tt = rw is refl in absurd (cc (e, other))
-
--- a step that added an entry goes on from whatever the core represented
-module _ {B C : Type 0} (g : Ghosts B) (laws : Laws g) (verdict : C → List ℕ → ℤ) (old new : CoreView B C) (live : old.state.ended ≡ false) where
-  abbrev Legal : Type 0
-  Legal = (opening : State) → FollowsFrom g opening old → FollowsFrom g opening new
-
-  abbrev Verdicts : Type 0
-  Verdicts = (opening : State) (given : List (Option (KitEntry C))) → Vouches g verdict given opening old → Vouches g verdict given opening new
-
-  abbrev Crash : Type 0
-  Crash = g.tells_moments → (opening : State) → FollowsFrom g opening old → LeavesOnly g.clock g.left_since old.state.store.bank new.state.store.bank (λ image. AfterCrash opening new.entries (length old.entries) (store_of image))
-
-  abbrev Gave : Type 0
-  Gave = (e : Entry) × (new.entries ≡ old.entries ++ e ∷ []) × (g.tells → (opening : State) → FollowsFrom g opening old → RestoresHeld (g.now old.state.store.bank) (all_calls_in (run_from (begins_at opening) old.entries) e) (run_from (begins_at opening) old.entries).state.store e.given.note)
-
-  pub continues_on : (actor : Actor) (request : Request) (done : Result Unit StepFault) → OnPlayed done (AddsOne g old new actor request done) → OnPlayed done Legal → OnPlayed done Verdicts → OnPlayed done Crash → OnPlayed done Gave
-      → OnPlayed done (Continues g verdict old new)
-  continues_on actor request (Ok x) one legal verdicts crash gave = step_continues g laws verdict old new live actor request (Ok x) one legal verdicts crash gave
-  continues_on actor request (Err NoMemory) one legal verdicts crash gave = tt
-  continues_on actor request (Err BootFault) one legal verdicts crash gave = step_continues g laws verdict old new live actor request (Err BootFault) one legal verdicts crash gave
-  continues_on actor request (Err BootStopped) one legal verdicts crash gave = step_continues g laws verdict old new live actor request (Err BootStopped) one legal verdicts crash gave
 
 module _ {B C : Type 0} (g : Ghosts B) (old new : CoreView B C) where
   -- there is an entry then

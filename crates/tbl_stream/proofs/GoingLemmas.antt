@@ -10,7 +10,7 @@ use Rattle.tbl_core.specs.Service.{EngineView, IsAfter, AddsOne, HasRoom, IsLimi
 use Rattle.tbl_core.specs.declared.service.StepFault.{StepFault}
 use Rattle.tbl_history.specs.Serving.{Continues}
 use Rattle.tbl_history.proofs.Laws.{Laws}
-use Rattle.tbl_history.proofs.ServingLemmas.{continues_same, then_continues, step_continues}
+use Rattle.tbl_history.proofs.ServingLemmas.{continues_same, then_continues, stepped_continues}
 use Rattle.tbl_outside.specs.declared.bank.Bank.{Ghosts}
 use Rattle.tbl_outside.specs.declared.validator.Validator.{Ghosts as ValidatorGhosts}
 use Rattle.tbl_stream.specs.Playing.{Goes}
@@ -48,22 +48,8 @@ full_of engine (inr images) few = omega (arith, images, few)
 
 -- one step more
 module _ {B C : Type 0} (g : Ghosts B) (laws : Laws g) (v : ValidatorGhosts C) (old new : EngineView B C) (asked : Actor × Request) (e : Entry) (result : Result Unit StepFault) (s : Steps g v old new asked e result) where
-  pub adds_one : (past : List Entry) → AddsOne g (core_of past old) (core_of (past ++ e ∷ []) new) asked.0 asked.1 result
-  adds_one past = record {
-    entry = e;
-    actor_is = s.adds.actor_is;
-    request_is = s.adds.request_is;
-    added = refl;
-    ended = s.adds.ended;
-    ends = s.adds.ends;
-    trouble = s.adds.trouble;
-    cause = s.adds.cause;
-  }
-
   pub goes_one : old.state.ended ≡ false → Goes g v.verdict old new (e ∷ [])
   goes_one live = record {
     after = s.after;
-    continues = λ past.
-        step_continues g laws v.verdict (core_of past old) (core_of (past ++ e ∷ []) new) live asked.0 asked.1 result (adds_one past)
-        (λ opening. s.legal opening past) (λ opening given. s.verdicts opening past given) (λ told opening. s.crash told opening past) (e, refl, λ told opening. s.gave told opening past);
+    continues = λ past. stepped_continues g v (core_of past old) (core_of (past ++ e ∷ []) new) asked.0 asked.1 result laws live (e, s.stepped past);
   }

@@ -2,7 +2,7 @@ use Rattle.std.proofs.Common.{Ok}
 use Rattle.tbl_history.proofs.Laws.{Laws}
 use Rattle.tbl_history.proofs.TroubleLemmas.{on_fault, on_stop}
 use Rattle.tbl_stream.proofs.GoingLemmas.{goes_one}
-use Rattle.tbl_stream.proofs.StepLemmas.{failed_step, stopped_step}
+use Rattle.tbl_stream.proofs.StepLemmas.{entry_of, failed_step, stopped_step}
 use Rattle.tbl_stream.proofs.stepping.step.Goals as goal
 
 pub returns-in-Err-BootFault-clause-goes : goal.returns-in-Err-BootFault-clause-goes
@@ -31,3 +31,16 @@ pub returns-in-Err-BootStopped-clause-boot : goal.returns-in-Err-BootStopped-cla
 returns-in-Err-BootStopped-clause-boot g c =
     let e = c.in-Err-BootStopped in
     stopped_step g.B.Bank g.C.Validator c.args.engine.now c.play.new.self (c.args.entry.now.actor, c.args.entry.now.request) c.play.new.entry e.field-0 e.field-0-is (on_stop e.field-0 e.field-0-is e.ensures.steps)
+
+pub returns-in-Err-BootFault-clause-entry : goal.returns-in-Err-BootFault-clause-entry
+returns-in-Err-BootFault-clause-entry g c =
+    let e = c.in-Err-BootFault in
+    entry_of g.B.Bank g.C.Validator c.args.engine.now c.play.new.self (c.args.entry.now.actor, c.args.entry.now.request) c.play.new.entry _ (on_fault e.field-0 e.field-0-is e.ensures.steps)
+
+pub returns-in-Err-BootStopped-clause-entry : goal.returns-in-Err-BootStopped-clause-entry
+returns-in-Err-BootStopped-clause-entry g c =
+    let e = c.in-Err-BootStopped in
+    entry_of g.B.Bank g.C.Validator c.args.engine.now c.play.new.self (c.args.entry.now.actor, c.args.entry.now.request) c.play.new.entry _ (on_stop e.field-0 e.field-0-is e.ensures.steps)
+
+pub returns-in-Ok-clause-entry : goal.returns-in-Ok-clause-entry
+returns-in-Ok-clause-entry g c = entry_of g.B.Bank g.C.Validator c.args.engine.now c.play.new.self (c.args.entry.now.actor, c.args.entry.now.request) c.play.new.entry (Ok tt) c.in-Ok.ensures.steps
