@@ -114,9 +114,11 @@ class Claims(unittest.TestCase):
         for carriers, clauses, fault in (("`run` of `tbl_top`", "`outcome`; `once`", ""), ("`run` of `tbl_top`", "`twice`", "twice"),
                                          ("`Board` of `tbl_live`", "`receipt`, and those of `Bank::read_at`", ""),
                                          ("`check16` of `check_word`", "its one clause", ""), ("`run` of `tbl_top`", "its one clause", "clause"),
-                                         ("`run` of `tbl_top`", "-", "clause")):
+                                         ("`run` of `tbl_top`", "-", "clause"),
+                                         ("`run` of `tbl_top`", "`once`; `legal`, `whole` of `IsServed`", ""),
+                                         ("`run` of `tbl_top`", "`once`; `regal` of `IsServed`", "regal of IsServed")):
             with self.subTest(carriers=carriers, clauses=clauses):
-                found = "".join(self.claims.clause_faults([["It holds", carriers, clauses]], self.functions))
+                found = "".join(self.claims.clause_faults([["It holds", carriers, clauses]], self.functions, {"IsServed": {"legal", "whole"}}))
                 self.assertEqual(found, fault and f"docs/proof/README.md: It holds: there is no {fault}")
 
     def test_functions_that_the_program_calls(self):
