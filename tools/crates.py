@@ -1,7 +1,13 @@
-"""The crates of the repository and what they stand on, by crates.txt."""
+"""The crates of the repository and what they stand on, by crates.txt, and where the kit is."""
 import os
+import subprocess
 
 TOP = os.path.dirname(os.path.dirname(os.path.realpath(__file__)))
+
+
+def kit():
+    """The folder of the Rattle kit."""
+    return os.path.dirname(subprocess.run(["rt", "doc"], stdout=subprocess.PIPE, text=True, check=True).stdout.strip())
 
 
 def uses():
