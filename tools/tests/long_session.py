@@ -1,4 +1,4 @@
-"""A session of some 30,000 requests, which checks of long sessions play: ordinary passes with refusals, resets and times among them."""
+"""A session of some 30,000 requests (3,000 in the quick test), which checks of long sessions play: ordinary passes with refusals, resets and times among them."""
 import contextlib
 import functools
 import os
@@ -6,7 +6,9 @@ import tempfile
 
 from tblkit import programs, works
 
-REQUESTS = 30_000
+from .amounts import amount
+
+REQUESTS = amount(30_000, 3_000)
 # What comes after each pass: three refusals, and a time.
 BETWEEN = ("ground ACTIVATE GNC.GAINS", "app 1 load 300 hex 00", "app 2 get 0", "time 1 2")
 

@@ -6,9 +6,13 @@ import os
 import zlib
 from dataclasses import dataclass
 
+from .amounts import amount
+
 TOP = os.path.dirname(os.path.dirname(os.path.dirname(os.path.realpath(__file__))))
 FOLDER = os.path.join(os.path.dirname(TOP), "shared", "conformance")
 PLAYED = ("play", "crew", "watch")
+# A session that has more bytes, with its output, isn't looked at.
+MOST_BYTES = amount(1 << 30, 8_000)
 
 
 @dataclass(frozen=True)
@@ -40,8 +44,11 @@ def sessions(pack):
     with open(os.path.join(FOLDER, pack + ".jsonl"), encoding="utf-8") as lines:
         for line in lines:
             case = json.loads(line)
-            if case["args"] and case["args"][0] in PLAYED:
+            if not case["args"] or case["args"][0] not in PLAYED:
+                continue
+            session, output = _unpacked(case["in"]), _unpacked(case["out"])
+            if len(session) + len(output) <= MOST_BYTES:
                 is_transcript = case["args"][0] != "watch"
                 lines = _unpacked(case.get("decoded", "")).decode("utf-8").splitlines() if is_transcript else []
                 decoded = [json.loads(it) for it in lines]
-                yield Case(pack, case["name"], _unpacked(case["in"]), _unpacked(case["out"]), decoded)
+                yield Case(pack, case["name"], session, output, decoded)

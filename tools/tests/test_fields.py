@@ -13,6 +13,7 @@ from tblkit.fields.layout import Field
 from tblkit.fields.wrong import Wrong
 
 from . import compiled, cosmos, xtce
+from .amounts import amount
 from .test_commands import COMMAND, TOOLS, call
 from .test_fields_targets import MEMBERS, text_of
 
@@ -342,7 +343,7 @@ class BigEndian(compiled.InFolder):
         return subprocess.run([programs.found(), *words], input=given, stdout=subprocess.PIPE, cwd=self.folder, check=True).stdout
 
     def test_make_and_describe(self):
-        for seed in range(12):
+        for seed in range(amount(12, 4)):
             chance = random.Random(seed)
             forms = [(chance.choice(list(self.TYPES)), f"f{at}") for at in range(chance.randint(1, 12))]
             fields = [Field("", "", 0, int(it[1:]), "", "big", it[0] == "i") for it, _ in forms]

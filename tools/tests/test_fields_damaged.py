@@ -10,10 +10,11 @@ from tblkit.fields import definitions, ground, loads, shown
 from tblkit.fields.wrong import Wrong
 
 from . import compiled
+from .amounts import amount
 from .test_commands import TOOLS, call
 from .test_fields_targets import MEMBERS, text_of
 
-OBJECTS, SECONDS, MEMORY = 5_000, 10, 1 << 30
+OBJECTS, SECONDS, MEMORY = amount(5_000, 800), 10, 1 << 30
 TARGETS = (None, compiled.POWERPC, "riscv64-unknown-elf", "sparc-linux-gnu")
 
 
@@ -90,7 +91,7 @@ class Damaged(compiled.InFolder):
 
     def test_by_the_command(self):
         content = self.read(os.path.basename(self.objects()[0]))
-        for number in range(20):
+        for number in range(amount(20, 6)):
             with self.subTest(number):
                 path = self.write("damaged.o", damaged(content, random.Random(number)))
                 status, written, said = call("table", "build", path, "-o", self.path("made.tbl"))

@@ -9,9 +9,10 @@ from tblkit.fields import definitions, loads, objects
 from tblkit.fields.layout import Members
 
 from . import compiled
+from .amounts import amount
 from .definitions_at_random import FLOATS, Table, source
 
-TABLES, BATCHES = 40, 25
+TABLES, BATCHES = 40, amount(25, 6)
 
 
 def read(path, tables):

@@ -49,20 +49,33 @@ def files_below(folder):
 
 
 class Formats(unittest.TestCase):
+    """The check over one copy of what it reads, in which a text is another one for a while."""
+
+    @classmethod
+    def setUpClass(cls):
+        cls.folder = tempfile.TemporaryDirectory()
+        cls.addClassCleanup(cls.folder.cleanup)
+        copied_to(cls.folder.name)
+
     def outcome(self, folder, wanted, found):
         """What check-formats says of a copy in which a text is another one: its status and its words."""
-        with tempfile.TemporaryDirectory() as copy:
-            copied_to(copy)
-            is_changed = False
-            for path in files_below(os.path.join(copy, folder)):
-                with open(path, encoding="utf-8") as file:
-                    text = file.read()
-                is_changed = is_changed or wanted in text
-                with open(path, "w", encoding="utf-8") as file:
-                    file.write(text.replace(wanted, found))
-            done = subprocess.run([sys.executable, os.path.join(copy, "tools", "gate", "check-formats")], capture_output=True, check=False)
-        self.assertTrue(is_changed, wanted)
+        changed = {}
+        for path in files_below(os.path.join(self.folder.name, folder)):
+            with open(path, encoding="utf-8") as file:
+                text = file.read()
+            if wanted in text:
+                changed[path] = text
+        self.assertTrue(changed, wanted)
+        self.write({path: text.replace(wanted, found) for path, text in changed.items()})
+        done = subprocess.run([sys.executable, os.path.join(self.folder.name, "tools", "gate", "check-formats")], capture_output=True, check=False)
+        self.write(changed)
         return done.returncode, done.stderr.decode()
+
+    @staticmethod
+    def write(texts):
+        for path, text in texts.items():
+            with open(path, "w", encoding="utf-8") as file:
+                file.write(text)
 
     def test_as_they_are(self):
         self.assertEqual(self.outcome("docs", "SUCCESS", "SUCCESS"), (0, ""))

@@ -26,7 +26,7 @@ class Long(unittest.TestCase):
                     begun = seconds()
                     status, written, said = call(*words, session, output)
                     self.assertEqual((status, said), (0, ""))
-                    self.assertGreater(written.count(b"\n"), 29_000)
+                    self.assertGreater(written.count(b"\n"), 29 * long_session.REQUESTS // 30)
                     self.assertLess(seconds() - begun, MOST_SECONDS)
             self.check_page(session, output)
 

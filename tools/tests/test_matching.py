@@ -12,11 +12,12 @@ from unittest import mock
 from tblkit import drill, matching, packets, programs, records, show, text, transcript
 
 from . import recorded
+from .amounts import amount
 from .test_commands import call
 
 EXAMPLES = sorted(glob.glob(os.path.join(recorded.TOP, "examples", "*.session")))
 OWN, ANOTHER = True, False
-CHANGES = 200
+CHANGES = amount(200, 50)
 
 
 def session_of(name):
