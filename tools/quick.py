@@ -1,7 +1,11 @@
-"""`cfetbl test --quick`: compiles the programs without any proof and tries them, as many jobs at a time as there are processors."""
+"""`cfetbl test --quick`: compiles the programs without any proof and tries them, in a few jobs at a time. What takes long without a proof is
+tried with less, or left for the whole gate."""
+import compileall
 import os
+import runpy
 import shutil
 import subprocess
+import tempfile
 import threading
 import time
 from collections.abc import Callable
@@ -9,23 +13,31 @@ from concurrent.futures import FIRST_COMPLETED, Future, ThreadPoolExecutor, wait
 from dataclasses import dataclass, field
 from glob import glob
 
+import unproved
 from crates import TOP
 from tblkit.progress import Ticker, span
 from tblkit.streams import say
 
 FRONT = f"{TOP}/cfetbl"
-# The words that find or build a program, and the checks of what doesn't need one. What is compiled over the library for C takes longest,
-# and few jobs need it.
-COMMON = ("play", "serve", "resets")
+# The words that find or build a program. What is compiled over the library for C takes longest, and few jobs need it.
 OVER_C = ("serve-app",) if shutil.which(os.environ.get("CC", "cc")) else ()
-OF_SOURCES = (["tools/gate/claims", "--check"], ["tools/gate/measures"], ["tools/gate/believed", "--check"], ["tools/gate/check-labels"],
-              ["tools/gate/check-formats"], ["tools/gate/check-links"], ["tools/gate/check-types"], ["tools/gate/check-numbers"])
-# The parts of tools/gate/check-cfetbl that are tried at once, and how many parts the tests of the tools and the recorded sessions have.
-OF_THE_COMMAND = ("words lists sessions crews kinds tools ends terminals", "stores places made_files looks watches drills", "resets whole evidence",
-                  "builds gate slow manual")
-PARTS = 3
+COMMON = ("play", "serve", "resets")
+# The parts of tools/gate/check-cfetbl that are tried at once, the longest first, and the programs that each needs.
+OF_THE_COMMAND = (("resets", COMMON), ("places", COMMON), ("whole evidence kinds", COMMON), ("words lists sessions crews", ("play",)),
+                  ("tools ends terminals stores made_files", ("play",)), ("looks watches drills builds gate slow manual", ("play",)))
+# The checks of what doesn't need a program.
+OF_SOURCES = (["tools/gate/check-links"], ["tools/gate/check-types"], ["tools/gate/check-numbers"], ["tools/gate/claims", "--check"],
+              ["tools/gate/measures"], ["tools/gate/believed", "--check"], ["tools/gate/check-labels"], ["tools/gate/check-formats"],
+              ["tools/pictures", "--check"])
+# How many parts the tests of the tools, the pages of docs/use and the recorded sessions have.
+TESTS, PAGES, SESSIONS = 11, 2, 4
 NEEDS_C = "test_serve_app.py"
-RECORDED = "../shared/conformance"
+RECORDED = "../shared/conformance/run"
+# A recorded session of more bytes, and a drill of more rounds, take some seconds each without a proof.
+MOST_BYTES, MOST_ROUNDS = 180_000, 5_000
+# The checks try less where that shows the same (tools/tests/amounts.py). Python's files are compiled before them: one that is compiled under a
+# limit for files may be cut off.
+ENVIRONMENT = {"CFETBL_UNPROVED": "quiet", "CFETBL_TEST": "quick", "PYTHONDONTWRITEBYTECODE": "1"}
 # The programs for tests whose rows take less than a minute without a proof.
 WITH_ROWS = ("test_maker", "test_codecs")
 
@@ -68,19 +80,21 @@ class Jobs:
 def ran(words: list[str]) -> str:
     """Runs a check, and answers why it failed, with its last lines."""
     done = subprocess.run(words, cwd=TOP, stdin=subprocess.DEVNULL, stdout=subprocess.PIPE, stderr=subprocess.STDOUT, check=False,
-                          env=os.environ | {"CFETBL_UNPROVED": "quiet"})
+                          env=os.environ | ENVIRONMENT)
     last = done.stdout.decode(errors="replace").splitlines()[-20:]
     return "\n".join([f"it ended with {done.returncode}", *last]) if done.returncode else ""
 
 
 def rows(crate: str) -> str:
     """Has a program for tests read its rows, and answers what it writes otherwise than it should."""
-    folder = f"{TOP}/crates/{crate}"
-    with open(f"{folder}/stdin", "rb") as given, open(f"{folder}/stdout", "rb") as wanted:
-        done = subprocess.run(["rt", "try"], cwd=folder, stdin=given, capture_output=True, check=False)
-        if done.returncode:
-            return "\n".join([f"rt try ended with {done.returncode}", *done.stderr.decode(errors="replace").splitlines()[-20:]])
-        return "" if done.stdout == wanted.read() else f"it writes other than crates/{crate}/stdout"
+    given, wanted = (f"{TOP}/crates/{crate}/{name}" for name in ("stdin", "stdout"))
+    with tempfile.TemporaryDirectory() as folder, open(wanted, "rb") as file:
+        said = f"{folder}/said"
+        with unproved.at_work(unproved.command(crate, TOP, session=given), crate, TOP, folder, said, subprocess.PIPE) as tool:
+            written, _ = tool.communicate()
+        if tool.returncode:
+            return f"the kit's compiler ended with {tool.returncode}\n{unproved.complaint(said)}"
+        return "" if written == file.read() else f"it writes other than crates/{crate}/stdout"
 
 
 def program(word: str) -> str:
@@ -90,56 +104,90 @@ def program(word: str) -> str:
 
 def tests(part: int) -> Job:
     """A part of the tests of the tools."""
-    has_app = any(it.endswith(NEEDS_C) for it in sorted(glob(f"{TOP}/tools/tests/test_*.py"))[part::PARTS])
-    words = ["tools/gate/check-tools", "--part", f"{part + 1}/{PARTS}"]
+    has_app = any(it.endswith(NEEDS_C) for it in sorted(glob(f"{TOP}/tools/tests/test_*.py"))[part::TESTS])
+    words = ["tools/gate/check-tools", "--part", f"{part + 1}/{TESTS}"]
     return Job(f"the tests of tools, part {part + 1}", lambda: ran(words), COMMON + OVER_C if has_app else COMMON)
 
 
-def recorded(part: int) -> Job:
-    """A part of the recorded sessions, each of which is a pack in their list."""
-    with open(f"{TOP}/{RECORDED}/packs.txt", encoding="utf-8") as lines:
-        packs = [line.split()[0] for line in lines if not line.startswith("#")]
-    words = [f"{RECORDED}/run", "--built", packs[-1], *packs[part::PARTS]]
-    return Job(f"recorded sessions, part {part + 1}", lambda: ran([*words, "--program", program("play")]))
+def pages(part: int) -> Job:
+    """A part of the pages whose commands are played."""
+    found = [f"{TOP}/README.md", *sorted(glob(f"{TOP}/docs/use/*.md"))][part::PAGES]
+    return Job(f"the pages of docs/use, part {part + 1}", lambda: ran(["tools/gate/check-use", *found]), COMMON + OVER_C)
 
 
-def jobs() -> list[Job]:
-    """What is done, the longest first."""
-    found = [Job(f"the program of {word}", lambda word=word: ran([FRONT, "--program", word]), (), word) for word in COMMON + OVER_C]
-    found += [tests(part) for part in range(PARTS)]
-    if os.path.exists(f"{TOP}/{RECORDED}/run"):
-        found += [recorded(part) for part in range(PARTS)]
-    found += [Job(f"check-cfetbl {part}", lambda part=part: ran(["tools/gate/check-cfetbl", *part.split()])) for part in OF_THE_COMMAND]
-    found.append(Job("the pages of docs/use", lambda: ran(["tools/gate/check-use"]), COMMON + OVER_C))
-    found.append(Job("the pictures", lambda: ran(["tools/pictures", "--check"]), ()))
-    found.append(Job("the examples", lambda: ran(["tools/gate/check-examples", program("play")])))
+class Recorded:
+    """The recorded sessions that lie beside the repository, without those that take long."""
+
+    def __init__(self) -> None:
+        self.runner = runpy.run_path(f"{TOP}/{RECORDED}") if os.path.exists(f"{TOP}/{RECORDED}") else {}
+        self.left_out: dict[int, int] = {}
+
+    def is_long(self, case: dict) -> bool:
+        if case["args"][:1] == ["drill"]:
+            return case["args"][-1].isdecimal() and int(case["args"][-1]) > MOST_ROUNDS
+        return len(self.runner["unpack"](case["in"])) > MOST_BYTES
+
+    def cases(self, part: int) -> tuple[int, list[dict]]:
+        """The number of the last request, and the cases of a part that hold from then on."""
+        packs = self.runner["packs"]()
+        last = list(packs.values())[-1]
+        found = [it for pack in packs for number, it in enumerate(self.runner["cases"](pack)) if number % SESSIONS == part]
+        return last, [it for it in found if not it.get("until_out", it["until"]) or it.get("until_out", it["until"]) > last]
+
+    def play(self, part: int) -> str:
+        """Plays a part of them, and answers which came otherwise than they should."""
+        (last, cases), place = self.cases(part), program("play")
+        short = [it for it in cases if not self.is_long(it)]
+        self.left_out[part] = len(cases) - len(short)
+        faults = [f"{it['name']}: {fault}" for it in short if (fault := self.runner["run_case"](place, it, last))]
+        return "\n".join([f"{len(faults)} of {len(short)} failed", *faults[:5]]) if faults else ""
+
+    def jobs(self) -> list[Job]:
+        parts = range(SESSIONS if self.runner else 0)
+        return [Job(f"recorded sessions, part {part + 1}", lambda part=part: self.play(part), ("play",)) for part in parts]
+
+
+def jobs(recorded: Recorded) -> list[Job]:
+    """What is done, the longest first, and what few programs are needed for before the rest."""
+    found = [Job(f"the program of {word}", lambda word=word: ran([FRONT, "--program", word]), (), word) for word in ("play", *OVER_C, "resets", "serve")]
     found += [Job(f"the rows of {crate}", lambda crate=crate: rows(crate), ()) for crate in WITH_ROWS]
-    return found + [Job(" ".join(words), lambda words=words: ran(words), ()) for words in OF_SOURCES]
+    found += [tests(part) for part in range(TESTS)]
+    found += [Job(f"check-cfetbl {part}", lambda part=part: ran(["tools/gate/check-cfetbl", *part.split()]), needs) for part, needs in OF_THE_COMMAND]
+    found += recorded.jobs()
+    found += [pages(part) for part in range(PAGES)]
+    found += [Job(" ".join(words), lambda words=words: ran(words), ()) for words in OF_SOURCES]
+    return found + [Job("the examples", lambda: ran(["tools/gate/check-examples", program("play")]), ("play",))]
 
 
-def do_all(work: Jobs, pool: ThreadPoolExecutor) -> None:
-    """Does each job once what it needs is there. If a program can't be made, no further job begins."""
+def do_all(work: Jobs, pool: ThreadPoolExecutor, most: int) -> None:
+    """Does at most so many jobs at a time, each once what it needs is there, the first of them first. If a program can't be made, no
+    further job begins."""
     left, running, made = list(work.all), dict[Future[None], Job](), set[str]()
     while left or running:
-        ready = [job for job in left if made.issuperset(job.needs)]
-        running |= {pool.submit(work.do, job): job for job in ready}
-        left = [job for job in left if job not in ready]
+        for job in [it for it in left if made.issuperset(it.needs)][:most - len(running)]:
+            left.remove(job)
+            running[pool.submit(work.do, job)] = job
         for future in wait(running, return_when=FIRST_COMPLETED).done:
             future.result()
             job = running.pop(future)
             if job.makes and job.fault:
-                pool.shutdown(cancel_futures=True)
                 return
             made.add(job.makes)
 
 
 def main() -> int:
     """Does all, and says what failed."""
-    begun, work = time.monotonic(), Jobs(jobs())
-    with Ticker(work.tell), ThreadPoolExecutor(len(os.sched_getaffinity(0))) as pool:
-        do_all(work, pool)
+    begun, recorded = time.monotonic(), Recorded()
+    work = Jobs(jobs(recorded))
+    # (some jobs mostly wait)
+    most = len(os.sched_getaffinity(0)) + 1
+    compileall.compile_dir(f"{TOP}/tools", quiet=2)
+    with Ticker(work.tell), ThreadPoolExecutor(most) as pool:
+        do_all(work, pool, most)
     failed = [job.name for job in work.all if job.fault]
-    end = "nothing was proved (`cfetbl test` proves and tests everything)"
+    count = sum(recorded.left_out.values())
+    left_out = f", and {count} long recorded sessions are left for it" if count else ""
+    end = f"nothing was proved (`cfetbl test` proves and tests everything{left_out})"
     if failed:
         say(f"test: {len(failed)} of {len(work.all)} failed, after {span(time.monotonic() - begun)}: {', '.join(failed)}; {end}")
         return 1
