@@ -1,4 +1,4 @@
-"""The calls of sessions as the lines of an application of cFE, tools/cfe-app/cfetbl_calls.c. What cFE can't be asked for is left out,
+"""The calls of sessions as the lines of an application of cFE, c/cfe-app/cfetbl_calls.c. What cFE can't be asked for is left out,
 and named by its place.
 """
 import io
@@ -8,7 +8,7 @@ import re
 import shutil
 from collections.abc import Iterator
 
-from . import layouts, names, packets, records, text
+from . import layouts, names, packets, programs, records, text
 from .tables import REGISTERED, SUCCESS
 
 # The application that sends the commands, and the folder of the files of which it tells.
@@ -23,7 +23,6 @@ PLAIN = re.compile(r"[A-Za-z0-9_./:-]+")
 APP = re.compile(rb"[A-Za-z0-9_-]{1,19}")
 FUNCTIONS = {0: "first", 1: "xor"}
 NO_FUNCTION = 0xFF
-TOOLS = os.path.dirname(os.path.dirname(os.path.realpath(__file__)))
 SOURCES = ("cfe-app/cfetbl_calls.c", "cfe-app/cfetbl_calls.h", "record/record.c", "record/record.h", "record/record_direct.h",
            "record/calls.h", "record/codes.h")
 BY_HANDLE = {"Unregister": "unregister", "Update": "update", "Validate": "validate", "Manage": "manage", "DumpToBuffer": "dump-to-buffer",
@@ -370,4 +369,4 @@ def write(folder, made) -> None:
         with open(os.path.join(folder, name), "w", encoding="utf-8") as file:
             file.write(content)
     for name in SOURCES:
-        shutil.copyfile(os.path.join(TOOLS, name), os.path.join(folder, "fsw", "src", os.path.basename(name)))
+        shutil.copyfile(os.path.join(programs.IN_C, name), os.path.join(folder, "fsw", "src", os.path.basename(name)))

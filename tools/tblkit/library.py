@@ -46,7 +46,7 @@ def built(folder: str, library: str) -> str:
     """tools/calls.c, compiled and linked with a libcfetbl.a."""
     program = os.path.join(folder, "calls")
     source = os.path.join(TOP, "tools", "calls.c")
-    subprocess.run(["cc", "-std=c99", "-O2", f"-I{TOP}/include", source, library, "-pthread", "-o", program], check=True)
+    subprocess.run(["cc", "-std=c99", "-O2", f"-I{TOP}/c/include", source, library, "-pthread", "-o", program], check=True)
     return program
 
 

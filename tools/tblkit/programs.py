@@ -11,6 +11,8 @@ from .streams import BY_SIGNAL
 
 HERE = os.path.dirname(os.path.dirname(os.path.realpath(__file__)))
 TOP = os.path.dirname(HERE)
+# What tools have in C stands in the clone, or where it is installed beside them.
+IN_C = os.path.join(TOP, "c") if os.path.isdir(os.path.join(TOP, "c", "stand-ins")) else HERE
 # The front command stands in the clone, or where it is installed beside share/.
 FRONTS = (os.path.join(TOP, "cfetbl"), os.path.join(os.path.dirname(TOP), "bin", "cfetbl"))
 NO_PROGRAM = 125

@@ -12,7 +12,7 @@ from tblkit.fields.wrong import NoReader
 
 from . import installed, recorded
 
-INCLUDE = os.path.join(recorded.TOP, "include")
+INCLUDE = os.path.join(recorded.TOP, "c", "include")
 # The targets of clang by the names of --print-targets, where a triple needs more than this name or has to be of ELF. Those without
 # a triple make no ELF objects of C, or need what clang doesn't have itself.
 TRIPLES = {

@@ -1,4 +1,4 @@
-"""`cfetbl compare` and the recorder of tools/record: calls of a mock of cFE are answered alike, and each planted fault is found."""
+"""`cfetbl compare` and the recorder of c/record: calls of a mock of cFE are answered alike, and each planted fault is found."""
 import os
 import re
 import shutil
@@ -9,10 +9,11 @@ import unittest.mock
 
 from tblkit import compared, differences, live, player, records
 
+from . import recorded
 from .test_commands import TOOLS, call
 
 HERE = os.path.dirname(os.path.realpath(__file__))
-MOCK, RECORD = os.path.join(HERE, "mock_cfe"), os.path.join(TOOLS, "record")
+MOCK, RECORD = os.path.join(HERE, "mock_cfe"), os.path.join(recorded.TOP, "c", "record")
 BEFORE = b"app 1 start CTRL\n"
 # The line of the log at which each fault of the mock is found.
 FAULTS = {1: 3, 2: 5, 3: 7, 4: 8, 5: 16, 6: 17, 7: 19, 8: 24, 9: 30, 10: 26}

@@ -10,7 +10,7 @@ from . import compiled, recorded
 from .test_commands import call
 from .test_fields_targets import MEMBERS, text_of
 
-CHECKER = os.path.join(recorded.TOP, "examples", "checker")
+CHECKER = os.path.join(recorded.TOP, "c", "examples", "checker")
 FUNCTIONS = """#include "cfetbl_table.h"
 int32 CFE_EVS_SendEventWithAppID(uint16 EventID, uint16 EventType, uint32 AppID, const char *Spec, ...);
 int32 CFE_ES_WriteToSysLog(const char *SpecStringPtr, ...);

@@ -8,12 +8,12 @@ import unittest
 
 from . import recorded
 
-COPIED = ("cfetbl", "crates.txt", "CHANGELOG.md", "CONTRIBUTING.md", "LICENSE", "README.md", "crates/tbl_main/src", "docs",
-          "examples/thermal", "include", "lib", "man", "tools")
+COPIED = ("cfetbl", "crates.txt", "CHANGELOG.md", "CONTRIBUTING.md", "LICENSE", "README.md", "crates/tbl_main/src", "c", "docs",
+          "man", "tools")
 OTHER = "9.8.7"
 # A file, a text in it, another one in its place, and what is said then; {} is the version.
-EDITS = (("include/tbl.h", "/* SPDX-License-Identifier: Apache-2.0 */\n", "", "include/tbl.h doesn't begin with /* SPDX"),
-         ("lib/cfetbl.c", "Apache-2.0 */", "MIT */", "lib/cfetbl.c doesn't begin with /* SPDX"),
+EDITS = (("c/include/tbl.h", "/* SPDX-License-Identifier: Apache-2.0 */\n", "", "c/include/tbl.h doesn't begin with /* SPDX"),
+         ("c/lib/cfetbl.c", "Apache-2.0 */", "MIT */", "c/lib/cfetbl.c doesn't begin with /* SPDX"),
          ("LICENSE", "SPDX-License-Identifier: ", "", "LICENSE has no line SPDX-License-Identifier"),
          ("README.md", "[Apache License 2.0](LICENSE)", "license", "README.md doesn't have `[Apache License 2.0](LICENSE)`"),
          ("README.md", "    cfetbl play --show /usr", "    cfetbl crew --show /usr", "README.md doesn't have `cfetbl play --show /usr"),
@@ -21,8 +21,8 @@ EDITS = (("include/tbl.h", "/* SPDX-License-Identifier: Apache-2.0 */\n", "", "i
          ("CHANGELOG.md", "## Unreleased\n", "", "CHANGELOG.md doesn't begin with the headings Unreleased and {}"),
          ("CHANGELOG.md", "\n## {}\n", f"\n## {OTHER}\n", f"but with Unreleased and {OTHER}"),
          ("man/cfetbl.1", "cfetbl {}", f"cfetbl {OTHER}", f"man/cfetbl.1 names the version {OTHER}"),
-         ("include/cfetbl_version.h", '_VERSION "{}"', f'_VERSION "{OTHER}"', "include/cfetbl_version.h has another version"),
-         ("lib/cfetbl.pc.in", "Version: @VERSION@", f"Version: {OTHER}", f"lib/cfetbl.pc.in names the version {OTHER}"),
+         ("c/include/cfetbl_version.h", '_VERSION "{}"', f'_VERSION "{OTHER}"', "c/include/cfetbl_version.h has another version"),
+         ("c/lib/cfetbl.pc.in", "Version: @VERSION@", f"Version: {OTHER}", f"c/lib/cfetbl.pc.in names the version {OTHER}"),
          ("docs/use/tutorial.md", "# Tutorial", f"# Tutorial of cfetbl_{OTHER}", f"docs/use/tutorial.md names the version {OTHER}"),
          ("crates/tbl_main/src/main.rt", "tbl {}\\n", f"tbl {OTHER}\\n",
           f"man/cfetbl.1 names the version {{}}, and crates/tbl_main/src/main.rt has {OTHER}"),

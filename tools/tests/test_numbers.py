@@ -37,7 +37,7 @@ EDITS = (
     ("crates/tbl_model/specs/Registry.antt", "bit_at 8 (is_double t) + bit_at 16 (is_critical t)", "bit_at 16 (is_double t) + bit_at 8 (is_critical t)",
      "registry, bits_of of tbl_model"),
     ("crates/tbl_model/specs/Management.antt", "bits = d.bits + 8", "bits = d.bits + 16", "work, bits of tbl_model"),
-    ("include/cfetbl_status.h", "CFETBL_ERR_BAD_APP = 32", "CFETBL_ERR_BAD_APP = 33", "CFETBL_ERR_BAD_APP in C"),
+    ("c/include/cfetbl_status.h", "CFETBL_ERR_BAD_APP = 32", "CFETBL_ERR_BAD_APP = 33", "CFETBL_ERR_BAD_APP in C"),
     ("tools/names.tsv", "\tbytes of preserved memory\t262144\t", "\tbytes of preserved memory\t262145\t", "BANK_SIZE of command_line"),
     ("tools/names.tsv", "field\tregistry\t18\t1\tstate", "field\tregistry\t18\t2\tstate", "registry, registry_record of tbl_kinds"),
     ("tools/names.tsv", "field\tbank\t139280\t", "field\tbank\t139281\t", "places of the bank"),
@@ -53,7 +53,7 @@ class Numbers(unittest.TestCase):
     def setUpClass(cls):
         cls.folder = tempfile.TemporaryDirectory()
         cls.addClassCleanup(cls.folder.cleanup)
-        for name in ("docs", "include", "lib", "tools"):
+        for name in ("c", "docs", "tools"):
             shutil.copytree(os.path.join(recorded.TOP, name), os.path.join(cls.folder.name, name))
         for name in glob.glob(os.path.join(recorded.TOP, "crates", "*", "s[pr]*c*")):
             if os.path.isdir(name):

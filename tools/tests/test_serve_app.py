@@ -22,8 +22,8 @@ from .test_commands import call
 from .test_serve import Service
 
 HERE = os.path.dirname(os.path.realpath(__file__))
-INCLUDE = os.path.join(recorded.TOP, "include")
-CHECKER = os.path.join(recorded.TOP, "examples", "checker")
+INCLUDE = os.path.join(recorded.TOP, "c", "include")
+CHECKER = os.path.join(recorded.TOP, "c", "examples", "checker")
 # One of these is there once the program is built, or can be built at once.
 BUILT = ("crates/tbl_c/out/libtbl_c.a", "out/unproved/tbl_app_serve", "out/app/tbl_app_serve")
 NO_VERDICT, WAIT = -(1 << 31), 60
@@ -275,8 +275,8 @@ class Functions(WithLibraries):
     def test_compilers(self):
         """The sources give no compiler a warning."""
         for compiler in filter(shutil.which, ("gcc", "clang")):
-            for source in sorted(glob.glob(os.path.join(recorded.TOP, "lib", "serving", "*.c"))):
-                done = subprocess.run([compiler, "-std=c11", "-O2", "-Wall", "-Wextra", "-Werror", f"-I{INCLUDE}", f"-I{recorded.TOP}/lib", "-c", source, "-o",
+            for source in sorted(glob.glob(os.path.join(recorded.TOP, "c", "lib", "serving", "*.c"))):
+                done = subprocess.run([compiler, "-std=c11", "-O2", "-Wall", "-Wextra", "-Werror", f"-I{INCLUDE}", f"-I{recorded.TOP}/c/lib", "-c", source, "-o",
                                        os.devnull], capture_output=True, text=True, check=False)
                 self.assertEqual((done.returncode, done.stderr), (0, ""))
 
@@ -339,7 +339,7 @@ class Served(WithLibraries, Service):
             self.assertGreater(len(library if layout else library[0]), 10)
 
     def test_an_application(self):
-        """The library of examples/checker, which its Makefile makes: an image that it accepts, and one that it refuses with its code."""
+        """The library of c/examples/checker, which its Makefile makes: an image that it accepts, and one that it refuses with its code."""
         made = subprocess.run(["make", "-s", "-f", os.path.join(CHECKER, "Makefile"), f"CPPFLAGS=-I{INCLUDE}", "checker.so"], cwd=self.folder,
                               capture_output=True, text=True, check=False)
         self.assertEqual((made.returncode, made.stderr), (0, ""))
@@ -393,7 +393,7 @@ class Page(WithLibraries, Service):
         script, block = content.split("Put this into `checker.txt`:\n\n")[1].split("\n\n")[0], content.split(self.NOTE)[1].split("\n\n")[1]
         with open(os.path.join(self.folder, "checker.txt"), "w", encoding="ascii") as file:
             file.writelines(f"{it.strip()}\n" for it in script.splitlines())
-        os.symlink(os.path.join(recorded.TOP, "examples"), os.path.join(self.folder, "examples"))
+        os.symlink(os.path.join(recorded.TOP, "c"), os.path.join(self.folder, "c"))
         *shell, last = [it[4:] for it in block.splitlines()]
         environment = os.environ | {"PATH": f"{recorded.TOP}:{os.environ['PATH']}", "CPPFLAGS": f"-I{INCLUDE}", "MAKEFLAGS": "-e"}
         done = subprocess.run(["bash", "-e"], input="\n".join(it[2:] for it in shell if it.startswith("$ ")), capture_output=True, text=True, cwd=self.folder,

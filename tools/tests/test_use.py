@@ -62,7 +62,7 @@ EDITS = (
     ("    begun\n", "    ended\n", "wrote\nbegun"),
     ("| 1 or 2 |", "| 2 |", "`true | false` ended with 1"),
 )
-SOURCES = ("cfetbl", "tools/*.py", "tools/*.sh", "tools/build-unproved", "tools/cfetbl/**/*.py", "tools/tblkit/**/*.py", "lib/*.c", "crates/tbl_adapters/src/*.rt",
+SOURCES = ("cfetbl", "tools/*.py", "tools/*.sh", "tools/build-unproved", "tools/cfetbl/**/*.py", "tools/tblkit/**/*.py", "c/lib/*.c", "crates/tbl_adapters/src/*.rt",
            "crates/command_line/src/*.rt")
 
 

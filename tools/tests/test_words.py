@@ -124,7 +124,7 @@ class Cfe(unittest.TestCase):
     def test_they_are_those_of_the_library_for_c(self):
         """The names that the library's header has are words here."""
         used = set()
-        for path in glob.glob(os.path.join(recorded.TOP, "include", "*.h")):
+        for path in glob.glob(os.path.join(recorded.TOP, "c", "include", "*.h")):
             with open(path, encoding="utf-8") as header:
                 used |= set(re.findall(r"\bCFE_[A-Z]+_(?:ERR|INFO|WARN|OPT|SRC)_[A-Z_]+\b(?<!_MSK)", header.read()))
         self.assertGreater(len(used), 30)

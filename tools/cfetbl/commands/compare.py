@@ -11,7 +11,7 @@ started; /dev/null is none. LOG has the calls in their order, a line each, with 
     ground LOAD /new
     app 1 CFE_TBL_Update 0 -> CFE_TBL_INFO_TABLE_LOCKED
 
-tools/record has a recorder in C that writes such a log for an application of cFE, and `cfetbl cfe-app` makes an application that
+c/record has a recorder in C that writes such a log for an application of cFE, and `cfetbl cfe-app` makes an application that
 makes the calls of sessions. A line without a return code is one of session text, as a test writes it if it sends a command, but for
 
     app 1 verdict LIMITS -5        what the table's validation function said inside the application's next call

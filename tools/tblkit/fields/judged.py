@@ -9,10 +9,10 @@ import sys
 import tempfile
 from dataclasses import dataclass
 
+from .. import programs
 from .wrong import Wrong
 
-HERE = os.path.dirname(os.path.dirname(os.path.dirname(os.path.realpath(__file__))))
-STAND_INS = os.path.join(HERE, "stand-ins", "cfe.c")
+STAND_INS = os.path.join(programs.IN_C, "stand-ins", "cfe.c")
 CALLER = os.path.join(os.path.dirname(os.path.realpath(__file__)), "caller.py")
 # How long a function may be at work, and how long nothing may be heard of it, in seconds.
 LONGEST, LONGEST_WAIT = 2, 300

@@ -1,5 +1,5 @@
 /* What cfe.h has beside the calls of tables and of the Critical Data Store, as far as the application of `cfetbl cfe-app` and
-   tools/record need it: written from cFE's public headers of edition 7 and OSAL's. The types of identifiers come before it. */
+   c/record need it: written from cFE's public headers of edition 7 and OSAL's. The types of identifiers come before it. */
 #ifndef COMMON_H
 #define COMMON_H
 

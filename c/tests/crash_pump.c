@@ -1,5 +1,5 @@
 /* SPDX-License-Identifier: Apache-2.0 */
-/* crash_pump.c: the crash test of examples/crash_test, against the writes that its README.md works out. Compiled with PUMP_FAULTY it expects
+/* crash_pump.c: the crash test of c/examples/crash_test, against the writes that its README.md works out. Compiled with PUMP_FAULTY it expects
  * the findings of the faulty form, and else none. */
 #define main pump_main
 #include "pump_test.c"

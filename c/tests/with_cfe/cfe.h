@@ -1,6 +1,6 @@
 /* SPDX-License-Identifier: Apache-2.0 */
 /* cfe.h: stands in for the headers of a cFE where CFETBL_WITH_CFE is tried. It has what cfetbl_cfe.h has, cFE's names for resource ids, which
- * are plain numbers by default (cfe_resourceid.h, cfe_es_api_typedefs.h), and of other services what lib/tests/apps calls. */
+ * are plain numbers by default (cfe_resourceid.h, cfe_es_api_typedefs.h), and of other services what c/tests/apps calls. */
 #ifndef CFE_H
 #define CFE_H
 

@@ -1,5 +1,5 @@
 /* SPDX-License-Identifier: Apache-2.0 */
-/* crash_thermal.c: the crash test of examples/thermal: no heater that was given up comes back into use, over the service's own store. Over one
+/* crash_thermal.c: the crash test of c/examples/thermal: no heater that was given up comes back into use, over the service's own store. Over one
  * like cFE's a reset inside a copy loses them all. */
 #include "cfetbl_crash.h"
 #include "expect.h"

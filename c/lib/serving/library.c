@@ -12,7 +12,7 @@
 
 enum { CACHE_LINE = 64 };
 
-/* Who is told of cFE's events: tools/stand-ins/cfe.c. */
+/* Who is told of cFE's events: c/stand-ins/cfe.c. */
 void cfetbl_take_events(void (*taker)(uint16_t id, uint16_t type, const char *text));
 
 /* What is asked: a function and an image. Aligned as the buffers of Table Services are. */
