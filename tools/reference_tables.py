@@ -1,4 +1,4 @@
-"""The tables of docs/reference/ that are made of tools/names.tsv, of what tblkit makes of it, and of the sessions of examples/.
+"""The tables of docs/reference/ that are made of tools/names.tsv, of what tblkit makes of it, and of the sessions of sessions/.
 
 In a page a block begins with a line `<!-- made: NAME WORDS -->` and ends with `<!-- made end -->`. What is between them is what the
 maker of this name returns for these words. tools/reference writes the blocks, and tools/gate/check-formats says whether they are these.
@@ -329,6 +329,6 @@ def faults() -> Iterator[str]:
                 first, last = map(int, it["words"].split())
                 differences.update(range(first, last + 1))
             if it["made"] != made(it["name"], it["words"].split()):
-                yield f"{page}: its block `{title}` isn't what names.tsv and examples/ make: call tools/reference"
+                yield f"{page}: its block `{title}` isn't what names.tsv and sessions/ make: call tools/reference"
     yield from (f"docs/reference/ has no block `{it}`" for it in wanted() if it not in found)
     yield from (f"docs/reference/ has no difference {number}" for number, *_ in names.rows_of("difference") if int(number) not in differences)

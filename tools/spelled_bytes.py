@@ -6,7 +6,7 @@ from collections.abc import Iterator
 
 from tblkit import layouts, names, packets, records, show, text, transcript
 
-EXAMPLES = os.path.join(os.path.dirname(os.path.dirname(os.path.realpath(__file__))), "examples")
+EXAMPLES = os.path.join(os.path.dirname(os.path.dirname(os.path.realpath(__file__))), "sessions")
 WIDTH, FEW_ZEROS, FILE_HEADER = 120, 4, layouts.end_of("file header")
 COMMANDS = ("ground NOOP", "ground RESET_COUNTERS", "ground HOUSEKEEPING", "ground LOAD /ram/a.tbl", "ground VALIDATE inactive A.T",
             "ground ACTIVATE A.T", "ground DELETE_CDS A.T", "ground DUMP active A.T /ram/d.tbl")

@@ -5,7 +5,7 @@
 copy_clone() {
     local name
     mkdir -p "$copy/programs" "$copy"/crates/tbl_main/{specs,proofs} || exit 2
-    cp -R .gitignore cfetbl CHANGELOG.md LICENSE Makefile README.md crates.txt c docs examples man tools "$copy" || exit 2
+    cp -R .gitignore cfetbl CHANGELOG.md LICENSE Makefile README.md crates.txt c docs man sessions tools "$copy" || exit 2
     cp -R crates/tbl_main/src "$copy/crates/tbl_main" || exit 2
     for name in tbl_main tbl_serve tbl_resets; do
         cp -- "${1:-crates/$name/out}/$name" "$copy/programs" || exit 2

@@ -15,7 +15,7 @@ START = "app 1 start A"
 FILES = 64
 TABLES = 128
 HANDLES = 256
-PASS = os.path.join(TOP, "examples", "pass.txt")
+PASS = os.path.join(TOP, "sessions", "pass.txt")
 
 
 @functools.cache
@@ -87,7 +87,7 @@ DUMP_REGISTRY = ("ground DUMP_REGISTRY /ram/r",)
 
 
 def ordinary_pass() -> tuple[tuple[str, ...], tuple[str, ...]]:
-    """The pass of examples/pass.txt without its resets: applications and tables come first, and all others are a round."""
+    """The pass of sessions/pass.txt without its resets: applications and tables come first, and all others are a round."""
     with open(PASS, encoding="utf-8") as lines:
         said = [line for line in map(str.strip, lines) if record(line) and not line.startswith("reset")]
     is_first = [line.split()[0] == "app" and line.split()[2] in ("start", "register", "share") for line in said]

@@ -15,7 +15,7 @@ from . import recorded
 from .test_commands import TOOLS, call
 
 FRONT = os.path.join(recorded.TOP, "cfetbl")
-HELLO = os.path.join(recorded.TOP, "examples", "hello")
+HELLO = os.path.join(recorded.TOP, "sessions", "hello")
 # The words of which `cfetbl help` has all that their help says.
 OF_THE_OVERVIEW = ("play", "crew", "watch", "drill", "resets", "test")
 # What takes other options: those of completion and help are for people, and these for tests.

@@ -15,7 +15,7 @@ from . import recorded
 TOOLS = os.path.join(recorded.TOP, "tools")
 # What words of the command line come after.
 COMMAND = (sys.executable, os.path.join(TOOLS, "cfetbl"))
-HELLO = os.path.join(recorded.TOP, "examples", "hello")
+HELLO = os.path.join(recorded.TOP, "sessions", "hello")
 MANY = 1500
 LARGE = 32830
 MEMORY = 64 << 20

@@ -11,7 +11,7 @@ from .test_commands import call
 
 WORKED = b"table A.T\noffset 0\nu16 limit 300\ni16 gain -5\n"
 SHAPE = "u16:limit,i16:gain"
-EXAMPLE = os.path.join(recorded.TOP, "examples", "limits.tbl.txt")
+EXAMPLE = os.path.join(recorded.TOP, "sessions", "limits.tbl.txt")
 
 
 class Descriptions(unittest.TestCase):
@@ -111,7 +111,7 @@ class Images(unittest.TestCase):
         self.assertEqual(found, ["limit 300", "gain -5"])
 
     def test_the_example(self):
-        name = os.path.join(recorded.TOP, "examples", "limits")
+        name = os.path.join(recorded.TOP, "sessions", "limits")
         status, written, _ = call("show", "--shape", f"CS_APP.Limits={SHAPE}", f"{name}.txt", f"{name}.transcript")
         self.assertEqual(status, 0)
         self.assertIn(b"      CS_APP.Limits: limit 300, gain 12\n", written)

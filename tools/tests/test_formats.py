@@ -39,7 +39,7 @@ EDITS = (("docs", "ERR_LOAD_IN_PROGRESS", "ERR_LOAD_PROGRESS", "names.tsv has ER
 
 def copied_to(folder):
     """Copies what the check reads."""
-    for part in ("c", "docs", "tools", "examples"):
+    for part in ("c", "docs", "sessions", "tools"):
         shutil.copytree(os.path.join(recorded.TOP, part), os.path.join(folder, part), ignore=shutil.ignore_patterns("__pycache__"))
 
 

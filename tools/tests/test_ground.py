@@ -13,7 +13,7 @@ from . import cosmos, recorded, xtce
 from .test_commands import call, into_full
 from .test_text import bytes_of
 
-EXAMPLES = sorted(glob.glob(os.path.join(recorded.TOP, "examples", "*.session")))
+EXAMPLES = sorted(glob.glob(os.path.join(recorded.TOP, "sessions", "*.session")))
 # The commands of docs/reference/packets.md with their bytes, and what is asked of a reader of definitions.
 COMMANDS = (
     ("1804 C000 0001 00 22", "NOOP", {}), ("1804 C000 0001 01 23", "RESET_COUNTERS", {}), ("180C C000 0001 00 2A", "HOUSEKEEPING", {}),

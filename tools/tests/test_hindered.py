@@ -75,7 +75,7 @@ class Programs(Calling):
             self.end(served)
             self.skipTest("the program doesn't lock its store")
         path = os.path.join(self.folder, "cds.store")
-        for tool, words in (("serve", ("--command-port", "0")), ("report", (os.path.join(TOOLS, "..", "examples", "hello.txt"),))):
+        for tool, words in (("serve", ("--command-port", "0")), ("report", (os.path.join(TOOLS, "..", "sessions", "hello.txt"),))):
             status, _, said = call(tool, *words, cwd=self.folder)
             self.assertEqual(status, 7, said)
             self.assertIn(f"is in use by process {programs_of(served.pid)[0]} (tbl_serve", said)

@@ -104,7 +104,7 @@ class Words(unittest.TestCase):
             self.assertEqual(call("map", "-o", "map.html", cwd=folder)[:2], (0, b""))
             self.assertIn(b"standard input: 1 of", call("map", "-", given=bank_of())[1])
             self.assertEqual(call("map", "nofile", cwd=folder)[0], 2)
-        hello = os.path.join(recorded.TOP, "examples", "hello.txt")
+        hello = os.path.join(recorded.TOP, "sessions", "hello.txt")
         status, _, said = call("map", hello)
         self.assertEqual((status, said[:len("cfetbl map: no store file: ")]), (2, "cfetbl map: no store file: "))
 

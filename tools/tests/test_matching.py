@@ -15,7 +15,7 @@ from . import recorded
 from .amounts import amount
 from .test_commands import call
 
-EXAMPLES = sorted(glob.glob(os.path.join(recorded.TOP, "examples", "*.session")))
+EXAMPLES = sorted(glob.glob(os.path.join(recorded.TOP, "sessions", "*.session")))
 OWN, ANOTHER = True, False
 CHANGES = amount(200, 50)
 
@@ -61,7 +61,7 @@ class Matching(unittest.TestCase):
     def test_own_over_a_store_that_has_blocks(self):
         with tempfile.TemporaryDirectory() as folder:
             for name in ("critical", "blocks", "critical", "blocks"):
-                session = session_of(os.path.join(recorded.TOP, "examples", f"{name}.session"))
+                session = session_of(os.path.join(recorded.TOP, "sessions", f"{name}.session"))
                 session = session.replace(text.record_of("reset power-on"), b"")
                 self.assertTrue(is_own(session, played(session, folder=folder)))
 

@@ -187,7 +187,7 @@ class RustPrograms(unittest.TestCase):
 
     def test_each_writes_the_transcript_of_an_example_up_to_what_it_leaves_out(self):
         whole = 0
-        for name in glob.glob(os.path.join(TOP, "examples", "*.session")):
+        for name in glob.glob(os.path.join(TOP, "sessions", "*.session")):
             # Its transcript is that of `play --admit`.
             if os.path.basename(name) == "admitted.session":
                 continue

@@ -15,7 +15,7 @@ CALLS = {it.name for it in names.requests().values() if not it.is_ground}
 
 def answers():
     """The answers of all examples."""
-    for path in sorted(glob.glob(os.path.join(recorded.TOP, "examples", "*.session"))):
+    for path in sorted(glob.glob(os.path.join(recorded.TOP, "sessions", "*.session"))):
         with open(path, "rb") as session, open(path.removesuffix("session") + "transcript", "rb") as played:
             for part in show.answers(transcript.parts(played), records.Index(session)):
                 if not isinstance(part, transcript.End):
@@ -74,7 +74,7 @@ class Made(unittest.TestCase):
         """The bytes that a page has of a session and a transcript, read back, are those of the files."""
         for name in ("hello", "table", "uplink"):
             for kind, made in (("session", spelled_bytes.of_session(name)), ("transcript", spelled_bytes.of_transcript(name))):
-                with open(os.path.join(recorded.TOP, "examples", f"{name}.{kind}"), "rb") as file:
+                with open(os.path.join(recorded.TOP, "sessions", f"{name}.{kind}"), "rb") as file:
                     self.assertEqual(read_back(made), file.read())
 
 

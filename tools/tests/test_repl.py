@@ -15,8 +15,8 @@ from . import recorded
 from .test_commands import COMMAND, TOOLS, call
 from .test_store import bank_of
 
-DESCRIPTIONS = glob.glob(os.path.join(recorded.TOP, "examples", "*.tbl.txt"))
-EXAMPLES = sorted({*glob.glob(os.path.join(recorded.TOP, "examples", "*.txt"))} - {*DESCRIPTIONS})
+DESCRIPTIONS = glob.glob(os.path.join(recorded.TOP, "sessions", "*.tbl.txt"))
+EXAMPLES = sorted({*glob.glob(os.path.join(recorded.TOP, "sessions", "*.txt"))} - {*DESCRIPTIONS})
 START = b"app 1 start A\napp 1 register T size 4 double\napp 1 load 0 hex 01020304\napp 1 get 0\n"
 WAIT = 180
 

@@ -12,13 +12,13 @@ from . import recorded
 from .pages import differences, drawn, packed_in
 from .test_commands import TOOLS, call, into_full
 
-EXAMPLES = sorted(glob.glob(os.path.join(recorded.TOP, "examples", "*.session")))
-# An edit of the session that the page of examples/activation.txt has, in JSON, and what it is found as.
+EXAMPLES = sorted(glob.glob(os.path.join(recorded.TOP, "sessions", "*.session")))
+# An edit of the session that the page of sessions/activation.txt has, in JSON, and what it is found as.
 EDITS = (('"status":[0,0,0,1', '"status":[0,0,0,0', "requests"), ('"image","image 2",2]', '"image","image 2",3]', "images"),
          ('"refused":[8,9,10,21]', '"refused":[8,9,10]', "refused lines"), ('"refused":[8,9,10,21]', '"refused":[8,9,21]', "refused requests"),
          ('"activation asked",null]', '"load validated",null]', "activations asked"), ('[23,33,"pin"', '[24,33,"pin"', "addresses got"),
          ('[3,22,"pin"', '[3,23,"pin"', "addresses released"), ('"refusals":[8,9,10,21]', '"refusals":[8,9,10]', "refusals with a table"))
-HELLO = os.path.join(recorded.TOP, "examples", "hello")
+HELLO = os.path.join(recorded.TOP, "sessions", "hello")
 
 
 def transcript_of(session):
@@ -53,7 +53,7 @@ class Pictures(unittest.TestCase):
 
     def test_what_is_found(self):
         """A picture that says something else of a request or a table."""
-        session = os.path.join(recorded.TOP, "examples", "activation.session")
+        session = os.path.join(recorded.TOP, "sessions", "activation.session")
         page = json.dumps(report.unpacked(call("report", session, transcript_of(session))[1].decode()), separators=(",", ":"))
         told = [json.loads(it) for it in call("show", "--json", session, transcript_of(session))[1].splitlines()]
         for was, is_now, found in EDITS:

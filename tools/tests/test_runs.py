@@ -12,7 +12,7 @@ from tblkit import text, transcript
 
 from . import recorded
 
-EXAMPLES = os.path.join(recorded.TOP, "examples")
+EXAMPLES = os.path.join(recorded.TOP, "sessions")
 FOLDER = os.path.join("crates", "test_runs")
 
 

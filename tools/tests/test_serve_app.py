@@ -95,7 +95,7 @@ class Played(WithLibraries):
 
     def test_the_examples(self):
         tried = 0
-        for name in sorted(glob.glob(os.path.join(recorded.TOP, "examples", "*.session"))):
+        for name in sorted(glob.glob(os.path.join(recorded.TOP, "sessions", "*.session"))):
             sizes = odd_sizes(name)
             if len(sizes) < 2:
                 with self.subTest(name), open(name, "rb") as session:

@@ -11,7 +11,7 @@ from . import recorded
 from .test_text import bytes_of, records_of, table
 
 END_OF_NOTHING = bytes_of("FFFFFFFF 00 00000000 00000000")
-EXAMPLES = sorted(glob.glob(os.path.join(recorded.TOP, "examples", "*.session")))
+EXAMPLES = sorted(glob.glob(os.path.join(recorded.TOP, "sessions", "*.session")))
 
 
 def content_of(name):
@@ -180,7 +180,7 @@ class Differences(unittest.TestCase):
                 self.assertGreater(len(self.difference(whole, changed)), 1, (name, place))
 
     def test_the_field_is_named(self):
-        whole = content_of(os.path.join(recorded.TOP, "examples", "hello.transcript"))
+        whole = content_of(os.path.join(recorded.TOP, "sessions", "hello.transcript"))
         for place, line in ((8, "  status: 0 SUCCESS | 5 INFO_DUMP_PENDING"), (12, "  detail: 0 | 5"),
                             (21 + 12 + 7, "  packet 1, row: none | 65530"),
                             (45 + 21 + 12 + 20, "  packet 1, free shared buffers: 4 | 1"),
@@ -195,7 +195,7 @@ class Differences(unittest.TestCase):
         self.assertEqual(self.difference(one, other), ["entry 0, app 1:", "  byte 99 of the reply bytes: 01 | 02"])
 
     def test_an_entry_less(self):
-        whole = content_of(os.path.join(recorded.TOP, "examples", "hello.transcript"))
+        whole = content_of(os.path.join(recorded.TOP, "sessions", "hello.transcript"))
         self.assertEqual(self.difference(whole, whole[:45])[0], "entry 1, ground:")
 
 
@@ -208,7 +208,7 @@ class Captures(unittest.TestCase):
         self.assertEqual(len(content), 65535)
 
     def test_an_event_has_the_table_as_comment(self):
-        name = os.path.join(recorded.TOP, "examples", "table.session")
+        name = os.path.join(recorded.TOP, "sessions", "table.session")
         found, _ = parts(content_of(name), content_of(name.replace(".session", ".transcript")))
         file = io.BytesIO()
         capture = pcap.Capture(file)
@@ -218,7 +218,7 @@ class Captures(unittest.TestCase):
 
     def test_frames_of_hello(self):
         """The NOOP, its event, the request for housekeeping, the housekeeping packet, each as a datagram."""
-        name = os.path.join(recorded.TOP, "examples", "hello.session")
+        name = os.path.join(recorded.TOP, "sessions", "hello.session")
         found, _ = parts(content_of(name), content_of(name.replace(".session", ".transcript")))
         file = io.BytesIO()
         capture = pcap.Capture(file)

@@ -9,7 +9,7 @@ from tblkit import described, limits, programs, text
 
 from . import recorded
 
-EXAMPLES = os.path.join(recorded.TOP, "examples")
+EXAMPLES = os.path.join(recorded.TOP, "sessions")
 PROVED, RESETS = (os.path.join(recorded.TOP, "crates", it, "out", it) for it in ("tbl_main", "tbl_resets"))
 # Where a program places its stack differs from run to run.
 RUNS = 3

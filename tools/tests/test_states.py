@@ -8,7 +8,7 @@ from tblkit import names, records, show, states, transcript
 
 from . import recorded
 
-EXAMPLES = sorted(glob.glob(os.path.join(recorded.TOP, "examples", "*.session")))
+EXAMPLES = sorted(glob.glob(os.path.join(recorded.TOP, "sessions", "*.session")))
 LONG = 60_000
 
 

@@ -15,8 +15,8 @@ from tblkit import streams
 from .test_commands import COMMAND, TOOLS, call
 from .test_serve import WAIT
 
-HELLO = os.path.join(TOOLS, "..", "examples", "hello.txt")
-DESCRIPTION = os.path.join(TOOLS, "..", "examples", "gain.tbl.txt")
+HELLO = os.path.join(TOOLS, "..", "sessions", "hello.txt")
+DESCRIPTION = os.path.join(TOOLS, "..", "sessions", "gain.tbl.txt")
 
 
 class Streams(unittest.TestCase):

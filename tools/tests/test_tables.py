@@ -128,7 +128,7 @@ class Kinds(unittest.TestCase):
         self.assertEqual(content.Kind.STORE.said_of("-", b""), "standard input is a store file")
 
     def test_each_example(self):
-        folder = os.path.join(recorded.TOP, "examples")
+        folder = os.path.join(recorded.TOP, "sessions")
         for name in (it for it in os.listdir(folder) if "." in it):
             with open(os.path.join(folder, name), "rb") as file:
                 kind = content.kind_of(content.front_of(file))

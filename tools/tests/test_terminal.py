@@ -12,7 +12,7 @@ import unittest
 from . import recorded
 from .test_commands import COMMAND, call
 
-EXAMPLE = os.path.join(recorded.TOP, "examples", "refused-loads")
+EXAMPLE = os.path.join(recorded.TOP, "sessions", "refused-loads")
 SHOWN = (EXAMPLE + ".session", EXAMPLE + ".transcript")
 STYLE = re.compile(r"\x1b\[[0-9;]*m")
 

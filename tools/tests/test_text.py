@@ -221,13 +221,13 @@ class ThereAndBack(unittest.TestCase):
             self.check(bytes(chosen.choice((0, 1, 2, 4, 0x10, 0x14, 0xC0)) for _ in range(chosen.randrange(300))))
 
     def test_lines_that_were_written_stay(self):
-        for name in glob.glob(os.path.join(recorded.TOP, "examples", "*.session")):
+        for name in glob.glob(os.path.join(recorded.TOP, "sessions", "*.session")):
             with open(name, "rb") as file:
                 lines = lines_of(file.read())
             self.assertEqual(lines_of(records_of(lines)), lines)
 
     def test_examples(self):
-        names = glob.glob(os.path.join(recorded.TOP, "examples", "*.session"))
+        names = glob.glob(os.path.join(recorded.TOP, "sessions", "*.session"))
         self.assertTrue(names)
         for name in names:
             with self.subTest(name), open(name, "rb") as session, open(name.replace(".session", ".txt"), "rb") as lines:

@@ -23,7 +23,7 @@ Put this into `kept.txt`:
 
 <!-- status 1 -->
 
-    $ cat kept.txt; cd examples; false
+    $ cat kept.txt; cd sessions; false
     one
 
 <!-- any order -->
@@ -51,7 +51,7 @@ EDITS = (
     ("    a\n", "    b\n", ":3: `printf 'a\\nb\\n'` wrote\na\nb"),
     ("    ..\n", "", ":3: `printf"),
     ("    one\n\n<!--", "    two\n\n<!--", "wrote\ntwo"),
-    ("<!-- status 1 -->\n\n", "", "cd examples; false` ended with 1"),
+    ("<!-- status 1 -->\n\n", "", "cd sessions; false` ended with 1"),
     ("<!-- any order -->\n\n", "", "wrote\n2 x\n1 y\nhello.txt"),
     ("    1 x\n", "    1 z\n", "wrote\n2 x\n1 y\nhello.txt"),
     ("<!-- not played: it needs more -->\n\n", "", "`no-such-command` wrote"),

@@ -51,7 +51,7 @@ class NotKnown(unittest.TestCase):
                                              "session (see cfetbl --help)\n"))
 
     def test_a_shape_of_an_unknown_table(self):
-        name = os.path.join(recorded.TOP, "examples", "limits")
+        name = os.path.join(recorded.TOP, "sessions", "limits")
         status, written, said = call("show", "--shape", "CS_APP.Limit=u16:limit", name + ".txt", name + ".transcript")
         self.assertEqual((status, written, said), (2, b"", "cfetbl show: --shape: the session has no table CS_APP.Limit; did you mean "
                                                            "CS_APP.Limits?\n"))
@@ -107,7 +107,7 @@ class Doubled(unittest.TestCase):
             for at, name in (("2:16", "NAV.NAV.MODES"), ("5:22", "NAV.A.B"))]))
 
     def test_the_examples_have_none(self):
-        for name in glob.glob(os.path.join(recorded.TOP, "examples", "*.txt")):
+        for name in glob.glob(os.path.join(recorded.TOP, "sessions", "*.txt")):
             if not name.endswith(".tbl.txt"):
                 self.assertEqual(call("text", name)[2], "")
 
