@@ -12,21 +12,21 @@ PREFIX = /usr/local
 export DESTDIR PREFIX PROGRAMS
 
 all:
-	tools/install programs
+	tools/publish/install programs
 
 claims:
-	tools/gate/claims
+	tools/develop/gate/claims
 
 .PHONY: claims
 
 install uninstall:
-	tools/install $@
+	tools/publish/install $@
 
 package release:
-	tools/$@
+	tools/publish/$@
 
 html:
-	tools/site
+	tools/publish/site
 
 test:
 	./cfetbl test

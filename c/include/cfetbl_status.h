@@ -1,5 +1,5 @@
 /* SPDX-License-Identifier: Apache-2.0 */
-/* cfetbl_status.h: what requests are answered with, by the names of docs/reference/statuses.md. tools/check-c compares them with tools/names.tsv. */
+/* cfetbl_status.h: what requests are answered with, by the names of docs/reference/statuses.md. tools/develop/check-c compares them with tools/command/names.tsv. */
 #ifndef CFETBL_STATUS_H
 #define CFETBL_STATUS_H
 

@@ -1,5 +1,5 @@
 /* SPDX-License-Identifier: Apache-2.0 */
-/* cfetbl_version.h: the version of these headers and of their library. tools/version-header makes it. */
+/* cfetbl_version.h: the version of these headers and of their library. tools/publish/version-header makes it. */
 #ifndef CFETBL_VERSION_H
 #define CFETBL_VERSION_H
 

@@ -2,7 +2,7 @@
 /* tbl.c: what of tbl.h the crate tbl_c doesn't export. */
 #include "tbl.h"
 
-/* Is there alone if the library of the crate was built without proofs (tools/build-unproved-library). */
+/* Is there alone if the library of the crate was built without proofs (tools/command/build-unproved-library). */
 extern const char tbl_is_unproved __attribute__((weak));
 
 int tbl_is_proved(void)

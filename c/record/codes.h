@@ -1,5 +1,5 @@
 /* SPDX-License-Identifier: Apache-2.0 */
-/* The return codes that record.c tells by name. tools/tests compares them with those of tools/names.tsv. */
+/* The return codes that record.c tells by name. tools/develop/tests compares them with those of tools/command/names.tsv. */
 #ifdef CFE_SUCCESS
         CODE(CFE_SUCCESS),
 #endif

@@ -1,6 +1,6 @@
 /* SPDX-License-Identifier: Apache-2.0 */
 /* reentry.c: what a validation function may call, and what it is refused: switching the service off or on, resets and the end of the
- * application while the call that asks it isn't done. tools/check-c runs it under AddressSanitizer and valgrind. */
+ * application while the call that asks it isn't done. tools/develop/check-c runs it under AddressSanitizer and valgrind. */
 #include "cfetbl.h"
 #include "expect.h"
 
