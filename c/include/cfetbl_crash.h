@@ -25,7 +25,7 @@ enum {
 
 /* What comes of a trouble. */
 enum CFETBL_CrashOutcome {
-    CFETBL_CRASH_HOLDS,   /* the application came up, and the invariant holds */
+    CFETBL_CRASH_HOLDS,   /* the application started, and the invariant holds */
     CFETBL_CRASH_NOT_UP,  /* the restart returned an error: a code below 0 */
     CFETBL_CRASH_BROKEN,  /* the invariant doesn't hold */
     CFETBL_CRASH_HANGS,   /* the application didn't return within the time limit */
@@ -115,7 +115,7 @@ bool CFETBL_ForEachResetFor(CFETBL_CrashScenario_t scenario, CFETBL_CrashRestart
 
 /* Tries each trouble. It returns true if all were tried, whatever was found. Else a message says why not, and the report has what was tried
  * so far: if the scenario makes other calls each time it is played, doesn't go on or ends its process, if the application hangs three
- * times, if the invariant makes a call, or out of memory. Without an invariant it is asked only whether the application comes up. Options may be NULL.
+ * times, if the invariant makes a call, or out of memory. Without an invariant it is asked only whether the application starts. Options may be NULL.
  * CFETBL_FreeReport frees what the report has in any case. */
 static inline bool CFETBL_ForEachReset(CFETBL_CrashScenario_t scenario, CFETBL_CrashRestart_t restart, CFETBL_CrashInvariant_t invariant,
                                        const struct CFETBL_CrashOptions *options, struct CFETBL_CrashReport *report)

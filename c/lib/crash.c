@@ -57,7 +57,7 @@ static const struct crash_end *try_state(struct crash *crash, struct crash_troub
 
 static void explore(struct crash *crash, int depth, struct crash_trouble *first);
 
-/* Has the start code that came up over the state that is tried played once more, with a reset in each of its writes. */
+/* Has the start code that succeeded over the state that is tried played once more, with a reset in each of its writes. */
 static void try_second(struct crash *crash, struct crash_trouble *trouble)
 {
     struct crash_shared *shared = crash->shared;

@@ -144,7 +144,7 @@ static void say_outcome(FILE *to, const struct CFETBL_CrashFinding *finding)
 
     crash_say_code(code, sizeof code, finding->returned);
     if (finding->outcome == CFETBL_CRASH_NOT_UP) {
-        fprintf(to, "the application didn't come up: the restart returned %s", code);
+        fprintf(to, "the application didn't start: the restart returned %s", code);
     } else if (finding->outcome == CFETBL_CRASH_BROKEN) {
         fprintf(to, "the invariant doesn't hold%s%s", finding->why[0] == 0 ? "" : ": ", finding->why);
     } else {

@@ -8,8 +8,8 @@ from .numbers import counted
 from .pages import element, fitting, legend, page, swatch, table, text
 
 # What comes of a trouble, by its word in a report: the kind of its bar, and what is said of it.
-OUTCOMES = {"holds": ("holds", "the application comes up, and the invariant holds"),
-            "not up": ("crossed not-up", "the application doesn't come up"),
+OUTCOMES = {"holds": ("holds", "the application starts, and the invariant holds"),
+            "not up": ("crossed not-up", "the application doesn't start"),
             "broken": ("stripes broken", "the invariant doesn't hold"),
             "hangs": ("dotted hangs", "the application doesn't return in time"),
             "dies": ("empty dies", "the application's process ends")}

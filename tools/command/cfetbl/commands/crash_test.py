@@ -7,7 +7,7 @@
 PROGRAM is a test that calls CFETBL_ForEachReset of cfetbl_crash.h, once or more often; it is called with the words after it.
 docs/use/crash-tests.md shows how to write one. The processor is reset before each write that the application makes to the
 Critical Data Store, and after each number of its bytes, and the application's start code is called over what is left. A finding
-is a reset after which the application doesn't come up, or its invariant doesn't hold: it is told with the write, the call and the
+is a reset after which the application doesn't start, or its invariant doesn't hold: it is told with the write, the call and the
 application's line, what the restart was answered, and what the invariant said.
 
 Standard error says every few seconds how many resets and other troubles were tried. What the program writes to standard output
