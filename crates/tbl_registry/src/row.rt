@@ -1,25 +1,21 @@
-ghost use Rattle.std.specs.Prelude.{◌≡◌, ◌&&◌, ◌<◌, ◌+◌, ◌-◌, ◌≤◌, ◌^◌, ◌==◌, ℕ, List, [], true, false, not, None, Some, IsSome, IfSome, IfOk, is_some, length, unwrap_or, bit_and, if◌then◌else◌};
-ghost use Rattle.std.specs.Option.{option_map, option_copied};
-ghost use Rattle.std.specs.Borrow.{Bor};
+ghost use Rattle.std.specs.Prelude.{◌≡◌, ◌&&◌, ◌<◌, ◌≤◌, [], ℕ, false, Some, IfSome, length, bit_and};
 ghost use Rattle.std.specs.Str.{bytes_eq};
-ghost use Rattle.tbl_kinds.specs.Check.{check16};
 ghost use Rattle.tbl_kinds.specs.Limits.{table_limit};
-ghost use Rattle.tbl_kinds.specs.Numbers.{patched};
-ghost use Rattle.tbl_model.specs.State.{Load, quiet, requested};
-ghost use Rattle.tbl_model.specs.Tables.{has_option, option_bits, is_double, is_dump_only, is_critical, is_quiet, uses_buffer};
+ghost use Rattle.tbl_model.specs.Tables.{has_option, option_bits, is_double, is_dump_only, is_critical, uses_buffer};
 ghost use Rattle.tbl_model.specs.Management.{pending_status};
-ghost use Rattle.tbl_model.specs.Validations.{judged_image};
-ghost use Rattle.tbl_registry.specs.Views.{has_image};
-ghost use Rattle.tbl_model.specs.TableSteps.{new_table, with_first, unchecked, base, filled_with, last_image};
+ghost use Rattle.tbl_model.specs.TableSteps.{new_table, with_first};
 
 use bitflags::Flags;
 use buffer_pairs::{Buffers, Image};
 use std::marker::Model;
-use tbl_kinds::{Memory, Name40, Name64, Options, Status};
+use tbl_kinds::{Name40, Name64, Options, Status};
 use tbl_model::Notice;
 
 mod copying;
+mod dumps;
+mod images;
 mod info;
+mod loads;
 
 pub(crate) use self::info::RECORD_LENGTH;
 
@@ -130,7 +126,7 @@ impl Model for Row {
 }
 
 impl Row {
-    ghost use Rattle.tbl_registry.specs.Views.{row_view, dump_view, dump_name, filled_image};
+    ghost use Rattle.tbl_registry.specs.Views.{row_view};
     ghost use Rattle.tbl_registry.specs.Rows.{IsTable};
 
     /// A table as its registration makes it.
@@ -209,13 +205,6 @@ impl Row {
         self.flags.contains(Options::DOUBLE)
     }
 
-    /// Whether a load of it is open.
-    pub(crate) fn has_load(&self) -> bool
-        ensures { result ≡ is_some self.now.load }
-    {
-        self.load.is_some()
-    }
-
     /// Whether it uses a shared working buffer.
     pub(crate) fn uses_buffer(&self) -> bool
         ensures { result ≡ uses_buffer (Some self.now) }
@@ -235,170 +224,6 @@ impl Row {
         ensures { result ≡ is_critical self.now }
     {
         self.flags.contains(Options::CRITICAL)
-    }
-
-    /// Whether no dump of it is pending.
-    fn is_quiet(&self) -> bool
-        ensures { result ≡ is_quiet self.now.dump }
-    {
-        match self.dump {
-            DumpFile::Quiet => true,
-            DumpFile::Asked(_) | DumpFile::Filled(_) => false,
-        }
-    }
-
-    /// How far its dump has come.
-    fn dump(&self) -> Dump
-        ensures { result ≡ dump_view self.now.dump }
-    {
-        match self.dump {
-            DumpFile::Quiet => Dump::Quiet,
-            DumpFile::Asked(_) => Dump::Asked,
-            DumpFile::Filled(_) => Dump::Filled,
-        }
-    }
-
-    /// The name of its dump's file.
-    pub(crate) fn dump_name(&self) -> Option<&Name64>
-        ensures { option_copied result ≡ dump_name self.now.dump }
-    {
-        match &self.dump {
-            DumpFile::Quiet => None,
-            DumpFile::Asked(file) => Some(file),
-            DumpFile::Filled(file) => Some(file),
-        }
-    }
-
-    /// The image of its filled dump.
-    pub(crate) fn filled(&self) -> Option<&[u8]>
-        ensures image { option_map (λ (image : Bor (List ℕ)). image.now) result ≡ filled_image self.now.dump }
-        ensures within { IfSome result (λ image. length image.now ≤ self.now.size) }
-        ensures limit { IfSome result (λ image. length image.now ≤ table_limit) }
-    {
-        match self.dump {
-            DumpFile::Filled(_) => Some(kept_bytes(&self.buffers)),
-            DumpFile::Quiet | DumpFile::Asked(_) => None,
-        }
-    }
-
-    /// A dump is requested, as this file.
-    pub(crate) fn ask_dump(&mut self, file: &Name64)
-        requires { is_quiet self.old.dump ≡ true }
-        ensures { self.new ≡ record self.old { dump = requested file.now } }
-    {
-        self.dump = DumpFile::Asked(file.copy());
-    }
-
-    /// The requested dump is filled with the last image.
-    pub(crate) fn fill_dump(&mut self)
-        ensures { self.new ≡ record self.old { dump = filled_with (last_image self.old) self.old.dump } }
-    {
-        self.buffers.keep();
-        self.dump = match std::mem::replace(&mut self.dump, DumpFile::Quiet) {
-            DumpFile::Quiet => DumpFile::Quiet,
-            DumpFile::Asked(file) => DumpFile::Filled(file),
-            DumpFile::Filled(file) => DumpFile::Filled(file),
-        };
-    }
-
-    /// No dump is pending any more.
-    pub(crate) fn end_dump(&mut self)
-        ensures { self.new ≡ record self.old { dump = quiet } }
-    {
-        self.buffers.end_keep();
-        self.dump = DumpFile::Quiet;
-    }
-
-    /// Its last image, or the one before it.
-    pub(crate) fn image(&self, before: bool) -> Option<&[u8]>
-        ensures image { option_map (λ (image : Bor (List ℕ)). image.now) result ≡ (if before then self.now.before else self.now.last) }
-        ensures size { IfSome result (λ image. length image.now ≡ self.now.size) }
-        ensures within { self.now.size ≤ table_limit }
-        ensures loaded { 0 < self.now.count → IsSome self.now.last }
-        ensures counted { is_some self.now.last ≡ not (self.now.count == 0) }
-    {
-        let image = if before {
-            self.buffers.before()
-        } else {
-            self.buffers.active()
-        };
-        Some(image?.bytes())
-    }
-
-    /// Its last image, or the one before it, with all that own it.
-    pub(crate) fn whole(&self, before: bool) -> Option<&Image>
-        ensures image { option_copied result ≡ (if before then self.now.before else self.now.last) }
-        ensures size { IfSome result (λ image. length image.now ≡ self.now.size) }
-    {
-        if before {
-            self.buffers.before()
-        } else {
-            self.buffers.active()
-        }
-    }
-
-    /// The check word of its last image, or else of that of its open load. It is kept with the image.
-    pub(crate) fn keep_check_word(&mut self, active: bool) -> Option<u16>
-        ensures word { IfSome result (λ word. word ≡ check16 (judged_image self.old active)) }
-        ensures there { is_some result ≡ has_image self.old active }
-        ensures same { self.new ≡ self.old }
-    {
-        if active {
-            return self.buffers.keep_check_word();
-        }
-        match &mut self.load {
-            Some(load) => Some(load.image.keep_check_word()),
-            None => None,
-        }
-    }
-
-    /// A further owner of its last image, or of the one before it. None if there is none; an Err means that the image has as many owners as
-    /// can be counted.
-    pub(crate) fn share(&self, before: bool) -> Result<Option<Image>, Memory>
-        ensures image { IfOk result (λ image. image ≡ (if before then self.now.before else self.now.last)) }
-        ensures loaded { 0 < self.now.count → IsSome self.now.last }
-    {
-        let image = if before {
-            self.buffers.before()
-        } else {
-            self.buffers.active()
-        };
-        match image {
-            Some(image) => Ok(Some(image.share()?)),
-            None => Ok(None),
-        }
-    }
-
-    /// An image that it doesn't have any more, for the memory of its bytes.
-    pub(crate) fn take_spare(&mut self) -> Option<Image>
-        ensures { self.new ≡ self.old }
-    {
-        self.buffers.take_spare()
-    }
-
-    /// Takes an image as its last one.
-    pub(crate) fn put(&mut self, image: Image)
-        requires size { length image ≡ self.old.size }
-        requires count { self.old.count < 2 ^ 32 - 1 }
-        ensures table { IsTable self.old }
-        ensures put { self.new ≡ record self.old { count = self.old.count + 1; last = Some image; before = if is_double self.old then self.old.last else None } }
-    {
-        self.buffers.put(image);
-        self.count += 1;
-    }
-
-    /// Whether it has an image before the last.
-    pub(crate) fn has_before(&self) -> bool
-        ensures { result ≡ is_some self.now.before }
-    {
-        self.buffers.before().is_some()
-    }
-
-    /// Drops the image before the last.
-    pub(crate) fn drop_before(&mut self)
-        ensures { self.new ≡ record self.old { before = None } }
-    {
-        self.buffers.drop_before();
     }
 
     /// Sets the time of its last update.
@@ -442,105 +267,4 @@ impl Row {
     {
         self.flags.remove(Options::CRITICAL);
     }
-
-    /// The activation of its open load is requested.
-    pub(crate) fn ask(&mut self)
-        ensures { self.new ≡ record self.old { activation = true } }
-    {
-        self.asked = true;
-    }
-
-    /// Closes its load, whose activation isn't requested any more, and gives the load's image.
-    pub(crate) fn end_load(&mut self) -> Option<Image>
-        ensures table { IsTable self.old }
-        ensures image { result ≡ option_map (λ (load : Load). load.image) self.old.load }
-        ensures size { IfSome result (λ image. length image ≡ self.old.size) }
-        ensures closed { self.new ≡ record self.old { load = None; activation = false } }
-    {
-        self.asked = false;
-        match self.load.take() {
-            Some(load) => Some(load.image),
-            None => None,
-        }
-    }
-
-    /// Whether its open load was validated since its last change.
-    fn is_checked(&self) -> bool
-        ensures { result ≡ (row_view self.now).checked }
-    {
-        match &self.load {
-            Some(load) => load.checked,
-            None => false,
-        }
-    }
-
-    /// The image of its open load.
-    pub(crate) fn load(&self) -> Option<&[u8]>
-        ensures image { option_map (λ (image : Bor (List ℕ)). image.now) result ≡ option_map (λ (load : Load). load.image) self.now.load }
-        ensures size { IfSome result (λ image. length image.now ≡ self.now.size) }
-        ensures within { self.now.size ≤ table_limit }
-    {
-        match &self.load {
-            Some(load) => Some(load.image.bytes()),
-            None => None,
-        }
-    }
-
-    /// Opens a load with this image, or replaces the image of the open load by it.
-    pub(crate) fn set_load(&mut self, image: Image)
-        requires size { length image ≡ self.old.size }
-        requires loadable { is_dump_only self.old ≡ false }
-        ensures table { IsTable self.old }
-        ensures load { self.new ≡ record self.old { load = unchecked image } }
-    {
-        self.load = Some(OpenLoad {
-            image,
-            checked: false,
-        });
-    }
-
-    /// Writes bytes into its open load in place, if nobody else has the load's image. Whether it did.
-    pub(crate) fn write_load(&mut self, offset: u32, bytes: &[u8]) -> bool
-        requires load { IsSome self.old.load }
-        requires within { offset + length bytes.now ≤ self.old.size }
-        ensures { self.new ≡ record self.old { load = if result then unchecked (patched (base self.old) offset bytes.now) else self.old.load } }
-    {
-        let Some(load) = &mut self.load else {
-            unreachable!();
-        };
-        write_load(load, offset, bytes)
-    }
-
-    /// Marks its open load as validated since its last change, or takes the mark away.
-    pub(crate) fn set_checked(&mut self, checked: bool)
-        requires { IsSome self.old.load }
-        ensures { self.new ≡ record self.old { load = option_map (λ (load : Load). record load { checked = checked }) self.old.load } }
-    {
-        let Some(load) = &mut self.load else {
-            unreachable!();
-        };
-        load.checked = checked;
-    }
-}
-
-/// The bytes of the image that is kept, none if there is none.
-fn kept_bytes(buffers: &Buffers) -> &[u8]
-    ensures { result.now ≡ unwrap_or buffers.now.kept [] }
-{
-    match buffers.kept() {
-        Some(image) => image.bytes(),
-        None => &[],
-    }
-}
-
-/// Writes bytes into the load in place, if nobody else has its image. Whether it did.
-fn write_load(load: &mut OpenLoad, offset: u32, bytes: &[u8]) -> bool
-    requires { offset + length bytes.now ≤ length load.old.image }
-    ensures { load.new ≡ (if result then record { image = patched load.old.image offset bytes.now; checked = false } else load.old) }
-{
-    let written = load.image.write(offset, bytes);
-    if written {
-        load.checked = false;
-    }
-    written
 }

@@ -1,28 +1,19 @@
-ghost use Rattle.std.specs.Prelude.{◌==◌, ◌&&◌, ◌≡◌, ◌++◌, false, ◌≢◌, ◌<◌, ◌≤◌, ◌↔◌, ◌+◌, ◌-◌, ◌^◌, ℕ, List, true, None, Some, Ok, Err, IsTrue, IsSome, IfOk, OnOk, OnErr, IfSome, IfNone, length, option_and_then, is_some, not};
-ghost use Rattle.std.specs.Option.{option_copied, option_map, ForSome};
-ghost use Rattle.std.specs.Borrow.{Bor};
+ghost use Rattle.std.specs.Prelude.{◌≡◌, ◌&&◌, false, ◌≢◌, ◌<◌, ◌≤◌, ◌↔◌, None, Some, Err, IsSome, IfOk, OnOk, OnErr, IfSome, length};
+ghost use Rattle.std.specs.Option.{ForSome};
 ghost use Rattle.tbl_kinds.specs.Free.{least_free};
 ghost use Rattle.tbl_kinds.specs.Limits.{table_limit};
-ghost use Rattle.tbl_kinds.specs.Telemetry.{registry_record};
-ghost use Rattle.tbl_model.specs.State.{no_tables, Load, Table};
-ghost use Rattle.tbl_model.specs.Tables.{table_count, handle_count, load_count, critical_count, in_use, has_option, option_bits, table_at};
+ghost use Rattle.tbl_model.specs.State.{no_tables};
+ghost use Rattle.tbl_model.specs.Tables.{table_count, handle_count, load_count, critical_count, has_option, option_bits, table_at};
 ghost use Rattle.tbl_model.specs.TableSteps.{find, added};
-ghost use Rattle.tbl_model.specs.Registry.{registry_row};
-ghost use Rattle.tbl_model.specs.Validations.{selected};
 ghost use Rattle.tbl_registry.specs.Adding.{planned};
 ghost use Rattle.tbl_registry.specs.Images.{most_images};
-ghost use Rattle.tbl_registry.specs.Rows.{IsTable};
-ghost use Rattle.tbl_registry.specs.Seen.{padded};
 
-use self::buffers::rows_with_buffer;
-use crate::row::{NewTable, RECORD_LENGTH, Row, RowView};
-use crate::rows::{
-    critical_in, free_row, free_rows, is_named, most_images_in, row_of_name, table_in,
-};
+use crate::row::{NewTable, Row};
+use crate::rows::{critical_in, free_row, free_rows, is_named, most_images_in, row_of_name};
 use access_desc::Handles;
 use std::alloc::Global;
 use std::marker::Model;
-use tbl_kinds::{Bytes, Memory, Name40, Name64};
+use tbl_kinds::Memory;
 use working_buffers::Working;
 
 mod buffers;
@@ -32,6 +23,8 @@ mod ends;
 mod handles;
 mod images;
 mod making;
+mod pinned;
+mod views;
 mod words;
 
 /// Why a table isn't registered. Nothing was changed.
@@ -108,8 +101,6 @@ impl Model for Tables {
 }
 
 impl Tables {
-    ghost use Rattle.tbl_registry.specs.Views.{row_view, dump_name, filled_image};
-
     /// No table and no handle. All memory that the calls below need, except that of images, is taken here, so that none of them can run out
     /// of it when a table has half changed.
     pub fn make(alloc: Global) -> Result<Tables, Memory>
@@ -222,113 +213,5 @@ impl Tables {
         self.rows[row as usize] = Some(Row::make(app, handle, plan));
         self.counts.tables += 1;
         Ok(handle)
-    }
-
-    /// What can be seen of the table of a row.
-    pub fn row(&self, row: u8) -> Option<RowView>
-        ensures view { result ≡ option_map row_view (table_at self.now row) }
-        ensures table { ForSome (table_at self.now row) IsTable }
-        ensures named { ForSome (table_at self.now row) (λ t. find t.name self.now ≡ Some row) }
-    {
-        Some(table_in(&self.rows, row)?.view())
-    }
-
-    /// Which image of the table of a row the ground means by a selector: the last one by 1, that of the open load by 0. A dump-only table
-    /// has only one image. None for any other selector.
-    pub fn selected(&self, row: u8, select: u16) -> Option<bool>
-        requires { IsSome (table_at self.now row) }
-        ensures { ForSome (table_at self.now row) (λ t. result ≡ selected t select) }
-    {
-        let Some(table) = table_in(&self.rows, row) else {
-            unreachable!();
-        };
-        // Any other selector is refused for a dump-only table too, though it has only one image.
-        if select > 1 {
-            return None;
-        }
-        Some(table.is_dump_only() || select == 1)
-    }
-
-    /// The record of the table of a row, as the registry gives it (`CFE_TBL_GetInfo`).
-    #[inline]
-    pub fn record(&self, row: u8) -> [u8; RECORD_LENGTH]
-        requires { IsSome (table_at self.now row) }
-        ensures record { ForSome (table_at self.now row) (λ t. result ≡ registry_record (registry_row t)) }
-        ensures len { ForSome (table_at self.now row) (λ t. length (registry_record (registry_row t)) ≡ 144) }
-    {
-        let Some(table) = table_in(&self.rows, row) else {
-            unreachable!();
-        };
-        table.record()
-    }
-
-    /// Appends the record of the table of a row, 144 bytes.
-    pub fn write_info(&self, row: u8, out: &mut Bytes)
-        requires table { IsSome (table_at self.now row) }
-        requires room { 144 ≤ out.old.spare }
-        ensures bytes { ForSome (table_at self.now row) (λ t. out.new.list ≡ out.old.list ++ registry_record (registry_row t)) }
-        ensures room { out.old.spare ≤ out.new.spare + 144 }
-        ensures len { length out.new.list ≡ length out.old.list + 144 }
-    {
-        out.append(&self.record(row));
-    }
-
-    /// The full name of the table of a row.
-    pub fn name(&self, row: u8) -> Option<&Name40>
-        ensures { option_copied result ≡ option_map (λ (t : Table). t.name) (table_at self.now row) }
-    {
-        Some(table_in(&self.rows, row)?.name())
-    }
-
-    /// The last image of the table of a row, None if there is none.
-    pub fn last(&self, row: u8) -> Option<&[u8]>
-        ensures image { option_map (λ (image : Bor (List ℕ)). image.now) result ≡ option_and_then (λ (t : Table). t.last) (table_at self.now row) }
-        ensures size { IfSome result (λ image. ForSome (table_at self.now row) (λ t. length image.now ≡ t.size)) }
-        ensures within { IfSome result (λ image. length image.now ≤ table_limit) }
-        ensures none { IfNone result (ForSome (table_at self.now row) (λ t. t.count ≡ 0)) }
-        ensures there { ForSome (table_at self.now row) (λ t. is_some result ≡ not (t.count == 0)) }
-    {
-        table_in(&self.rows, row)?.image(false)
-    }
-
-    /// The image of the open load of the table of a row, None if there is none.
-    pub fn load(&self, row: u8) -> Option<&[u8]>
-        ensures image { option_map (λ (image : Bor (List ℕ)). image.now) result ≡ option_map (λ (load : Load). load.image) (option_and_then (λ (t : Table). t.load) (table_at self.now row)) }
-        ensures size { IfSome result (λ image. ForSome (table_at self.now row) (λ t. length image.now ≡ t.size)) }
-        ensures within { IfSome result (λ image. length image.now ≤ table_limit) }
-    {
-        table_in(&self.rows, row)?.load()
-    }
-
-    /// The name of the file of the pending dump of the table of a row, None if no dump is pending.
-    pub fn dump_name(&self, row: u8) -> Option<&Name64>
-        ensures { option_copied result ≡ option_and_then (λ (t : Table). dump_name t.dump) (table_at self.now row) }
-    {
-        table_in(&self.rows, row)?.dump_name()
-    }
-
-    /// The image of the filled dump of the table of a row, None if no dump is filled.
-    pub fn filled(&self, row: u8) -> Option<&[u8]>
-        ensures image { option_map (λ (image : Bor (List ℕ)). image.now) result ≡ option_and_then (λ (t : Table). filled_image t.dump) (table_at self.now row) }
-        ensures size { IfSome result (λ image. ForSome (table_at self.now row) (λ t. length image.now ≤ t.size)) }
-        ensures within { IfSome result (λ image. length image.now ≤ table_limit) }
-    {
-        table_in(&self.rows, row)?.filled()
-    }
-
-    /// The rows that use the shared working buffers, ascending, and then None.
-    pub fn in_use(&self) -> [Option<u8>; 4]
-        ensures rows { result ≡ padded (in_use self.now) }
-        ensures within { length (in_use self.now) ≤ 4 }
-    {
-        rows_with_buffer(&self.rows, &self.working)
-    }
-
-    /// Whether all four shared working buffers are used.
-    pub fn all_buffers_used(&self) -> bool
-        ensures all { result ≡ (length (in_use self.now) == 4) }
-        ensures few { length (in_use self.now) ≤ 4 }
-    {
-        self.working.is_full()
     }
 }

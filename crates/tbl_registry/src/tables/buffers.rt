@@ -1,7 +1,6 @@
 //! Which rows have the shared working buffers.
 
-ghost use Rattle.std.specs.Prelude.{◌≡◌, ◌<◌, ◌≤◌, ◌∷◌, Some, take, true, false, position, map, count_by, length, is_some, IfSome};
-ghost use Rattle.std.specs.Option.{option_map};
+ghost use Rattle.std.specs.Prelude.{◌≡◌, ◌<◌, ◌≤◌, ◌∷◌, Some, take, true, false, position, count_by, length, is_some, IfSome};
 ghost use Rattle.tbl_model.specs.Tables.{rows_from};
 ghost use Rattle.tbl_registry.specs.Lent.{AreLent, IsSettled, is_out_to, is_row};
 ghost use Rattle.tbl_registry.specs.InUse.{later, last_before};

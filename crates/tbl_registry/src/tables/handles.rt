@@ -1,27 +1,23 @@
-//! What applications do with handles on tables, and with the images that they pin.
+//! What applications do with handles on tables.
 
-ghost use Rattle.std.specs.Prelude.{◌≡◌, ◌<◌, ◌≤◌, ◌+◌, ◌^◌, [], None, Some, Ok, Err, IsSome, IfOk, OnOk, IfErr, IfSome, OnSome, IfNone, is_some, if◌then◌else◌, nat_lt, length, map, position, slice_index_or, option_and_then};
+ghost use Rattle.std.specs.Prelude.{◌≡◌, ◌<◌, [], None, Some, Ok, Err, IsSome, IfOk, OnOk, IfSome, OnSome, IfNone, is_some, if◌then◌else◌, nat_lt, length, position, slice_index_or, option_and_then};
 ghost use Rattle.std.specs.Option.{option_map, ForSome};
-ghost use Rattle.tbl_kinds.specs.Limits.{table_limit};
 ghost use Rattle.tbl_model.specs.State.{Table, Handle};
 ghost use Rattle.tbl_model.specs.Management.{pending_status};
 ghost use Rattle.tbl_kinds.specs.Free.{least_free};
 ghost use Rattle.tbl_model.specs.Tables.{table_at};
-ghost use Rattle.tbl_model.specs.TableSteps.{check, handle_at, access_of, get_address, release, read, locker, new_handle, with_handle, give_back, registered_by};
+ghost use Rattle.tbl_model.specs.TableSteps.{check, handle_at, access_of, get_address, release, locker, new_handle, with_handle, give_back, registered_by};
 ghost use Rattle.access_desc.specs.Steps.{at_place, changed_at, has, pins, pins_old, with_no_pin};
-ghost use Rattle.tbl_registry.specs.Lending.{pins_image, lent_at};
 ghost use Rattle.tbl_registry.specs.Seen.{handle_of, tables_of, with_last, drop_before_unless};
 
 use super::Tables;
-use crate::pin::Pin;
 use crate::row::Row;
 use crate::rows::table_in;
 use access_desc::{HandleView, Handles};
-use buffer_pairs::Image;
-use tbl_kinds::{Answer, INLINE_LIMIT, Memory, Status};
+use tbl_kinds::{Answer, Status};
 
 /// What a handle represents, with its table's row and its table.
-fn access<'a>(
+pub(super) fn access<'a>(
     rows: &'a [Option<Row>],
     handles: &Handles,
     handle: u16,
@@ -230,71 +226,6 @@ impl Tables {
         };
         unpin(table, &mut self.handles, handle, row);
         Answer::plain(update_status(view.told, count))
-    }
-
-    /// The stated bytes of the image that the handle pins.
-    pub fn read(&self, handle: u16, offset: u32, len: u32) -> Result<&[u8], Status>
-        requires { IsSome (access_of self.now handle) }
-        ensures ok { IfOk result (λ bytes. read handle offset len self.now ≡ Ok bytes.now) }
-        ensures err { IfErr result (λ status. read handle offset len self.now ≡ Err status) }
-        ensures length { IfOk result (λ bytes. length bytes.now ≡ len) }
-        ensures within { OnOk result (len ≤ table_limit) }
-    {
-        let Some((view, _, table)) = access(&self.rows, &self.handles, handle) else {
-            unreachable!();
-        };
-        if !view.pinned {
-            return Err(Status::ERR_NOT_PINNED);
-        }
-        let Some(image) = table.image(view.old) else {
-            unreachable!();
-        };
-        let from = offset as usize;
-        let to = from + len as usize;
-        if to > image.len() {
-            return Err(Status::ERR_OUT_OF_RANGE);
-        }
-        Ok(&image[from..to])
-    }
-
-    /// The image that the handle pins, if the stated bytes are the whole of it and more than a value itself can hold: a read of them can
-    /// have them without a copy. Otherwise None.
-    pub fn read_whole(&self, handle: u16, offset: u32, len: u32) -> Option<&Image>
-        ensures { IfSome result (λ image. read handle offset len self.now ≡ Ok image.now) }
-    {
-        if offset != 0 || len as usize <= INLINE_LIMIT {
-            return None;
-        }
-        let Some((view, _, table)) = access(&self.rows, &self.handles, handle) else {
-            return None;
-        };
-        if !view.pinned {
-            return None;
-        }
-        let image = table.whole(view.old)?;
-        if image.bytes().len() != len as usize {
-            return None;
-        }
-        Some(image)
-    }
-
-    /// Lends the image that a handle pins, with the place of the call that got its address. None if the handle leads to no table, or pins
-    /// no image. An Err means that the image has as many owners as can be counted.
-    pub fn lend(&self, handle: u16, place: u64) -> Result<Option<Pin>, Memory>
-        ensures lent { IfOk result (λ lent. lent ≡ lent_at handle place self.now) }
-        ensures none { IfOk result (λ lent. is_some lent ≡ pins_image handle self.now) }
-        ensures within { IfOk result (λ lent. OnSome lent (handle < 256)) }
-    {
-        let Some((view, _, table)) = access(&self.rows, &self.handles, handle) else {
-            return Ok(None);
-        };
-        if !view.pinned {
-            return Ok(None);
-        }
-        let Some(image) = table.share(view.old)? else {
-            unreachable!();
-        };
-        Ok(Some(Pin::of(image, handle, place, table.name().copy())))
     }
 
     /// The least handle in the way of a new image of the table of a row (cFE User's Guide, Table Services, "Locking").

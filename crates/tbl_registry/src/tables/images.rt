@@ -1,8 +1,8 @@
 //! How the images of tables and of their open loads change.
 
-ghost use Rattle.std.specs.Prelude.{◌≡◌, ◌<◌, ◌≤◌, ◌+◌, ◌-◌, ◌^◌, ◌&&◌, false, None, Some, IsSome, IfSome, is_some, if◌then◌else◌, length, map, position, count_by};
+ghost use Rattle.std.specs.Prelude.{◌≡◌, ◌<◌, ◌≤◌, ◌+◌, ◌-◌, ◌^◌, false, None, Some, IsSome, IfSome, is_some, if◌then◌else◌, length, map, position, count_by};
 ghost use Rattle.std.specs.Option.{option_map, ForSome};
-ghost use Rattle.tbl_model.specs.State.{Load, Table};
+ghost use Rattle.tbl_model.specs.State.{Load};
 ghost use Rattle.tbl_model.specs.Tables.{table_at, is_double, is_dump_only, uses_buffer};
 ghost use Rattle.tbl_model.specs.TableSteps.{locker, put, set_time, set_file, set_load, patch, set_checked, unchecked, load_image, ask, close_load, activate, set_notice, not_critical};
 ghost use Rattle.tbl_model.specs.Refusals.{open_refusal};
