@@ -2,8 +2,10 @@
 //! for preserved memory.
 #![tactic(auto)]
 
+mod information;
 mod store;
 mod words;
 
+pub use information::Information;
 pub use store::open_store;
 pub use words::{CommandLine, WordsFault, command_line};

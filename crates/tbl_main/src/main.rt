@@ -4,7 +4,7 @@
 ghost use Rattle.std.specs.Prelude.{◌≤◌};
 ghost use Rattle.tbl_kinds.specs.Places.{bank_size};
 
-use command_line::{WordsFault, command_line, open_store};
+use command_line::{Information, WordsFault, command_line, open_store};
 use shipped_kit::shipped_entries;
 use std::alloc::Global;
 use std::process::ExitCode;
@@ -60,22 +60,11 @@ It ends with one of these statuses:
 /// What `--version` answers.
 const VERSION: &str = "tbl 1.0.0\n";
 
-/// The text that a word asks for, if no further word comes with it.
-fn text_for(words: &[Bytes]) -> Option<&'static str> {
-    match words {
-        [word] if word.bytes() == b"--help".as_slice() => Some(HELP),
-        [word] if word.bytes() == b"--version".as_slice() => Some(VERSION),
-        _ => None,
-    }
-}
-
-/// Writes a text, and gives the status for that.
-fn tell(text: &str, sink: &mut StandardOutput) -> u8 {
-    match sink.write(text.as_bytes()) {
-        Ok(()) => 0,
-        Err(_) => 4,
-    }
-}
+/// What the program says of itself.
+const INFORMATION: Information = Information {
+    help: HELP,
+    version: VERSION,
+};
 
 /// The gate of the program, which returns at once.
 struct OpenGate;
@@ -111,8 +100,8 @@ fn main(rt: HostRuntime) -> ExitCode {
         Err(WordsFault::Unreadable | WordsFault::NoName) => return ExitCode::from(2),
     };
     let mut sink = StandardOutput::of(rt.stdout());
-    if let Some(text) = text_for(&line.words) {
-        return ExitCode::from(tell(text, &mut sink));
+    if let Some(status) = INFORMATION.answer(&line.words, &mut sink) {
+        return ExitCode::from(status);
     }
     let Some(bank) = open_store(&rt, "tbl", &line) else {
         return ExitCode::from(7);
