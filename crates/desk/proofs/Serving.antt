@@ -1,5 +1,5 @@
 -- The one contract, put together and carried over.
-use Rattle.std.proofs.Common.{◌≡◌, ◌∙◌, ℕ, List, length, Some, sym, subst, ap, refl}
+use Rattle.std.proofs.Common.{◌≡◌, ◌∙◌, ℕ, List, length, Some, Result, Ok, Err, sym, subst, ap, refl}
 use Rattle.tbl_model.specs.State.{State, Table, Tables}
 use Rattle.tbl_model.specs.Tables.{table_at}
 use Rattle.tbl_model.specs.Effects as model
@@ -13,7 +13,7 @@ use Rattle.validation.specs.Kits.{owners}
 use Rattle.request_effects.specs.Reports.{Reported}
 use Rattle.request_effects.specs.Effects.{Effect, IsWithin, HasRoom, given_of, told_effect}
 use Rattle.desk.specs.Desk.{Rest, state_at, Output}
-use Rattle.desk.specs.Requests.{Meaning, told, for_row, Does, Has, Made}
+use Rattle.desk.specs.Requests.{Meaning, told, for_row, Does, Has, Made, Served}
 use Rattle.desk.specs.declared.desk.Desk.{Desk}
 
 -- a request that comes to the same in the old state
@@ -26,6 +26,13 @@ as_meant v a b old new out answer same most more made = record {
   within = subst (λ (n : ℕ). IsWithin n (told answer out)) most made.within;
   room = subst (λ (n : ℕ). HasRoom n out.reply.packets (told answer out)) more made.room;
 }
+
+-- the same if memory may have run out
+pub served_so : {C E : Type 0} (v : ValidatorGhosts C) (a b : Meaning) (old new : Desk C) (out : Output) (result : Result Answer E)
+    → ((rest : Rest) (given : Given) → a.effect (state_at rest old) given ≡ b.effect (state_at rest old) given) → a.most ≡ b.most → a.more old.tables ≡ b.more old.tables
+    → Served v a old new out result → Served v b old new out result
+served_so v a b old new out (Ok answer) same most more made = as_meant v a b old new out answer same most more made
+served_so v a b old new out (Err e) same most more left = left
 
 -- it was made with these bytes and this report
 pub made_so : {C : Type 0} (v : ValidatorGhosts C) (meaning : Meaning) (old new : Desk C) (out : Output) (answer : Answer) (bytes : List ℕ) (report : Reported)

@@ -1,4 +1,4 @@
 pub mod Asking
-pub mod Records
 pub mod Dumping
-pub mod Serving
+pub mod Records
+pub mod Unasked

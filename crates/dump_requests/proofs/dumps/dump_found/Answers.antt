@@ -1,11 +1,11 @@
-use Rattle.std.proofs.Common.{◌≡◌, ◌∙◌, Some, sym, true, false, refl}
+use Rattle.std.proofs.Common.{◌≡◌, ◌∙◌, Some, sym, true, false, refl, arith}
 use Rattle.tbl_model.specs.Tables.{table_at, is_dump_only}
 use Rattle.tbl_model.specs.Dumps.{dump_by, ask_dump_effect}
 use Rattle.tbl_model.specs.Validations.{selected}
 use Rattle.validation.proofs.Ready.{some_is}
-use Rattle.desk.proofs.Serving.{serves_so}
+use Rattle.desk.proofs.Serving.{serves_so, served_so}
+use Rattle.desk.proofs.Quiet.{refused_at_once}
 use Rattle.dump_requests.specs.Dumps.{table_dump, file_dump}
-use Rattle.dump_requests.proofs.Serving.{refused_made, served_so}
 use Rattle.dump_requests.proofs.dumps.dump_found.Goals as goal
 
 pub returns-then-is_dump_only : goal.returns-then-is_dump_only
@@ -34,6 +34,6 @@ returns-in-Err g c =
     let t = some_is (table_at c.args.desk.now.tables c.args.row) c.requires.table in
     let only : is_dump_only t.0 ≡ false = sym (c.is_dump_only.ensures t.0 t.1) ∙ c.if-is_dump_only.false in
     record {
-      served = refused_made g.C.Validator (table_dump c.args.row c.args.asked.now.select file) c.args.desk.now _ c.plain-in-Err.result c.requires.empty refl
-          (λ rest. rw (t.1, ← c.in-Some.ensures t.0 t.1, only, c.in_ok-contents.ensures.comes_to rest file t.0 t.1, c.in-Err.is, c.plain-in-Err.ensures.status, c.plain-in-Err.ensures.detail) refl);
+      served = refused_at_once {v = g.C.Validator} {meaning = table_dump c.args.row c.args.asked.now.select file} {answer = c.plain-in-Err.result} c.requires.empty (omega arith)
+          (λ rest given. rw (t.1, ← c.in-Some.ensures t.0 t.1, only, c.in_ok-contents.ensures.comes_to rest file t.0 t.1, c.in-Err.is, c.plain-in-Err.ensures.status, c.plain-in-Err.ensures.detail) refl);
     }

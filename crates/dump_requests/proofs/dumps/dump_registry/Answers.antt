@@ -3,7 +3,7 @@ use Rattle.tbl_model.specs.Dumps.{dump_registry_effect, registry_file}
 use Rattle.desk.specs.Desk.{state_at}
 use Rattle.desk.specs.Requests.{command}
 use Rattle.dump_requests.specs.Dumps.{file_dump}
-use Rattle.dump_requests.proofs.Serving.{served_so}
+use Rattle.desk.proofs.Serving.{served_so}
 use Rattle.dump_requests.proofs.dumps.dump_registry.Goals as goal
 
 pub returns : goal.returns

@@ -13,7 +13,7 @@ use Rattle.desk.proofs.Buffers.{rows_in_padded}
 use Rattle.desk.proofs.Serving.{made_so}
 use Rattle.dump_requests.specs.Housekeeping.{written, then_write, then_finish}
 use Rattle.dump_requests.proofs.Dumping.{all_ended}
-use Rattle.dump_requests.proofs.Serving.{does_unasked}
+use Rattle.dump_requests.proofs.Unasked.{does_unasked}
 use Rattle.dump_requests.proofs.filled_dumps.housekeeping.Goals as goal
 
 pub returns : goal.returns

@@ -1,6 +1,6 @@
 use Rattle.tbl_model.specs.Activations.{activation_of, activate_command_effect}
 use Rattle.desk.specs.Desk.{output}
-use Rattle.update_requests.proofs.Answering.{named_made, missing_made}
+use Rattle.desk.proofs.ByName.{named_made, missing_made}
 use Rattle.update_requests.proofs.activations.activate.Goals as goal
 
 pub returns-in_default : goal.returns-in_default

@@ -1,7 +1,7 @@
 use Rattle.std.proofs.Common.{◌∙◌, arith}
 use Rattle.tbl_model.specs.Validations.{selected, validate_by, validate_effect}
 use Rattle.desk.specs.Desk.{output}
-use Rattle.update_requests.proofs.Answering.{named_made, missing_made}
+use Rattle.desk.proofs.ByName.{named_made, missing_made}
 use Rattle.update_requests.proofs.validations.validate.Goals as goal
 
 pub returns-in_default : goal.returns-in_default
