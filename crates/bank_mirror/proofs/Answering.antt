@@ -1,13 +1,13 @@
 -- What a call of two banks as one tells, and what holds after it.
 use Rattle.std.proofs.Common.{◌≡◌, ◌⊎◌, inl, inr, ℕ, ◌+◌, ◌-◌, ◌^◌, ◌<◌, ◌≤◌, min, List, sym, subst, arith}
-use Rattle.std.specs.Prelude.{if◌then◌else◌, Result, Ok, Err, is_err, OnOk, OnErr}
+use Rattle.std.specs.Prelude.{Bool, true, false, if◌then◌else◌, Result, Ok, Err, is_err, OnOk, OnErr}
 use Rattle.std.proofs.lemmas.Bool.{cases_lt}
 use Rattle.tbl_outside.specs.declared.bank.Bank.{Ghosts}
 use Rattle.tbl_outside.specs.declared.bank.Written.{Written}
 use Rattle.tbl_outside.specs.declared.bank.Written.TheVariants.{Done, Failed, Stopped}
 use Rattle.tbl_outside.specs.Bank.{LeavesOnly}
 use Rattle.tbl_outside.specs.Counts.{Rose, Still, RoseAlone, Counted, risen}
-use Rattle.tbl_outside.proofs.Counts.{Rose-risen}
+use Rattle.tbl_outside.proofs.Counts.{Rose-risen, le-risen}
 use Rattle.bank_mirror.specs.Pairs.{Pair}
 use Rattle.bank_mirror.specs.Moments.{Leaves}
 use Rattle.bank_mirror.specs.Counts.{opening_of, stops_of, OneStopped, IsSince, GoesOn, SameStops, MayFail, WriteCounted}
@@ -31,10 +31,10 @@ sum_full_too a' b' top full = omega (arith, full)
 sum_grows : (a b a' b' top : ℕ) → a ≤ a' → b ≤ b' → min (a + b) top ≤ min (a' + b') top
 sum_grows a b a' b' top first second = omega (arith, first, second)
 
--- two facts of one error
-pub both_err : {T E P Q R : Type 0} (result : Result T E) → (P → Q → R) → OnErr result P → OnErr result Q → OnErr result R
-both_err (Ok x) join one two = tt
-both_err (Err e) join one two = join one two
+-- a count after one more call isn't less
+pub counted_grows : (old new : ℕ) (failed : Bool) → old ≤ 2 ^ 64 - 1 → new ≡ (if failed then risen old else old) → old ≤ new
+counted_grows old new true bound is = subst (λ n. old ≤ n) (sym is) (le-risen old bound)
+counted_grows old new false bound is = omega (arith, is)
 
 module _ {A B : Type 0} (a : Ghosts A) (b : Ghosts B) where
   stops_rise : (old new : Pair A B) → IsSince a b (old.first, old.second) new → OneStopped a b (old.first, old.second) new → Rose (stops_of a b old) (stops_of a b new)

@@ -7,8 +7,9 @@ use Rattle.tbl_outside.specs.Counts.{Counted}
 use Rattle.tbl_outside.proofs.Counts.{Rose-since, Rose-until}
 use Rattle.bank_mirror.specs.declared.in_use.InUse.{InUse}
 use Rattle.bank_mirror.specs.declared.in_use.InUse.TheVariants.{Both, FirstOut, SecondOut, Unread}
+use Rattle.bank_mirror.specs.declared.in_use.Alone.TheVariants.{First, Second}
 use Rattle.bank_mirror.specs.Pairs.{Pair}
-use Rattle.bank_mirror.specs.Counts.{FirstFailed, SecondFailed, OneFailed, OneStopped, BothStill, IsSince, GoesOn, MayFail, WriteCounted, FirstBroke, SecondBroke}
+use Rattle.bank_mirror.specs.Counts.{FirstFailed, SecondFailed, OneFailed, OneStopped, SameStops, BothStill, IsSince, GoesOn, MayFail, WriteCounted, CopyBroke}
 use Rattle.bank_mirror.specs.BanksInUse.{IsExcused}
 use Rattle.bank_mirror.specs.declared.opening.OpenFault.{OpenFault}
 use Rattle.bank_mirror.specs.declared.opening.OpenFault.TheVariants.{Fault, Stopped as OpenStopped, Memory, Blank}
@@ -87,11 +88,27 @@ module _ {A B : Type 0} (a : Ghosts A) (b : Ghosts B) where
   first_out_too mark_failed opening pair (inr (inl stopped)) first = inr (inl (inl first, stopped))
   first_out_too mark_failed opening pair (inr (inr mark)) first = inr (inr mark)
 
-  -- what a write of the second counts
+  -- what a write of one counts
+  pub first_counted : (old new : Pair A B) (written : Written) → new.second ≡ old.second → Counted a.faults a.stops old.first new.first written → WriteCounted a b (old.first, old.second) new written
+  first_counted old new Done other counted = (counted.1, ap b.stops other)
+  first_counted old new Failed other counted = (inl counted.0, (counted.1, ap b.stops other))
+  first_counted old new Stopped other counted = inl counted.0
+
   pub second_counted : (old new : Pair A B) (written : Written) → new.first ≡ old.first → Counted b.faults b.stops old.second new.second written → WriteCounted a b (old.first, old.second) new written
   second_counted old new Done other counted = (ap a.stops other, counted.1)
   second_counted old new Failed other counted = (inr counted.0, (ap a.stops other, counted.1))
   second_counted old new Stopped other counted = inr counted.0
+
+  -- a write that failed did so by the bank that it was of
+  pub first_broke : (old new : Pair A B) (written : Written) → written ≡ Failed → Counted a.faults a.stops old.first new.first written → FirstFailed a b (old.first, old.second) new
+  first_broke old new Done is counted = absurd (cc is)
+  first_broke old new Failed is counted = counted.0
+  first_broke old new Stopped is counted = absurd (cc is)
+
+  pub second_broke : (old new : Pair A B) (written : Written) → written ≡ Failed → Counted b.faults b.stops old.second new.second written → SecondFailed a b (old.first, old.second) new
+  second_broke old new Done is counted = absurd (cc is)
+  second_broke old new Failed is counted = counted.0
+  second_broke old new Stopped is counted = absurd (cc is)
 
   -- a write after a call in which no count of stops rose
   pub counted_after : (old mid new : Pair A B) (written : Written) → GoesOn a b old mid → a.stops mid.first ≡ a.stops old.first → b.stops mid.second ≡ b.stops old.second
@@ -104,6 +121,17 @@ module _ {A B : Type 0} (a : Ghosts A) (b : Ghosts B) where
   counted_after old mid new Stopped goes first second counted =
       ⊎_elim (λ rose. inl (Rose-since _ _ _ goes.counts.first_stops rose)) (λ rose. inr (Rose-since _ _ _ goes.counts.second_stops rose)) counted
 
+  -- a write before a call in which no count of stops rose
+  pub counted_before : (old mid new : Pair A B) (written : Written) → GoesOn a b old mid → GoesOn a b mid new → SameStops a b (mid.first, mid.second) new
+      → WriteCounted a b (old.first, old.second) mid written → WriteCounted a b (old.first, old.second) new written
+  counted_before old mid new Done one two stops counted = (stops.0 ∙ counted.0, stops.1 ∙ counted.1)
+  counted_before old mid new Failed one two stops counted = (
+    ⊎_elim (λ rose. inl (Rose-until _ _ _ one.counts.first_faults two.counts.first_faults rose)) (λ rose. inr (Rose-until _ _ _ one.counts.second_faults two.counts.second_faults rose)) counted.0,
+    (stops.0 ∙ counted.1.0, stops.1 ∙ counted.1.1),
+  )
+  counted_before old mid new Stopped one two stops counted =
+      ⊎_elim (λ rose. inl (Rose-until _ _ _ one.counts.first_stops two.counts.first_stops rose)) (λ rose. inr (Rose-until _ _ _ one.counts.second_stops two.counts.second_stops rose)) counted
+
   -- an excuse since a later moment is one since an earlier one
   pub excused_since : (mark_failed : Bool) (opening : A × B) (mid new : Pair A B) (in_use : InUse) → IsSince a b opening mid → IsExcused a b mark_failed (mid.first, mid.second) new in_use → IsExcused a b mark_failed opening new in_use
   excused_since mark_failed opening mid new Both since excused = tt
@@ -114,16 +142,16 @@ module _ {A B : Type 0} (a : Ghosts A) (b : Ghosts B) where
   excused_since mark_failed opening mid new SecondOut since (inr (inr mark)) = inr (inr mark)
   excused_since mark_failed opening mid new Unread since both = (first_fails opening mid new since both.0, second_fails opening mid new since both.1)
 
-  -- what a write of one bank counted, since a moment before it
-  pub first_broke : (old mid new : Pair A B) (written : Written) → GoesOn a b old mid → Counted a.faults a.stops mid.first new.first written → FirstBroke a b (old.first, old.second) new written
-  first_broke old mid new Done goes counted = tt
-  first_broke old mid new Failed goes counted = Rose-since _ _ _ goes.counts.first_faults counted.0
-  first_broke old mid new Stopped goes counted = inl (Rose-since _ _ _ goes.counts.first_stops counted.0)
+  -- what the write of a copy counted, since a moment before it
+  pub copy_broke-first : (old mid new : Pair A B) (written : Written) → GoesOn a b old mid → Counted a.faults a.stops mid.first new.first written → CopyBroke a b Second (old.first, old.second) new written
+  copy_broke-first old mid new Done goes counted = tt
+  copy_broke-first old mid new Failed goes counted = Rose-since _ _ _ goes.counts.first_faults counted.0
+  copy_broke-first old mid new Stopped goes counted = inl (Rose-since _ _ _ goes.counts.first_stops counted.0)
 
-  pub second_broke : (old mid new : Pair A B) (written : Written) → GoesOn a b old mid → Counted b.faults b.stops mid.second new.second written → SecondBroke a b (old.first, old.second) new written
-  second_broke old mid new Done goes counted = tt
-  second_broke old mid new Failed goes counted = Rose-since _ _ _ goes.counts.second_faults counted.0
-  second_broke old mid new Stopped goes counted = inr (Rose-since _ _ _ goes.counts.second_stops counted.0)
+  pub copy_broke-second : (old mid new : Pair A B) (written : Written) → GoesOn a b old mid → Counted b.faults b.stops mid.second new.second written → CopyBroke a b First (old.first, old.second) new written
+  copy_broke-second old mid new Done goes counted = tt
+  copy_broke-second old mid new Failed goes counted = Rose-since _ _ _ goes.counts.second_faults counted.0
+  copy_broke-second old mid new Stopped goes counted = inr (Rose-since _ _ _ goes.counts.second_stops counted.0)
 
   -- what an opening counted since a moment of it, it counted since it began
   pub calls_counted : (opening : A × B) (mid new : Pair A B) (fault : OpenFault) → IsSince a b opening mid → CallsCounted a b (mid.first, mid.second) new fault → CallsCounted a b opening new fault

@@ -2,5 +2,10 @@ pub mod Moments
 pub mod Bytes
 pub mod Excuses
 pub mod Joined
+pub mod Calling
+pub mod GoodOne
+pub mod Writing
+pub mod Copying
 pub mod Opened
+pub mod Made
 pub mod Answering

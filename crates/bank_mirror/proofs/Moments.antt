@@ -5,6 +5,7 @@ use Rattle.tbl_outside.specs.Bank.{LeavesOnly}
 use Rattle.tbl_outside.proofs.Moments.{started}
 use Rattle.bank_mirror.specs.Pairs.{Pair, pair_of}
 use Rattle.bank_mirror.specs.Moments.{OfFirst, OfSecond, first_of, moment, InStep, From, MayLeave, LeftSince, Leaves}
+use Rattle.bank_mirror.specs.Counts.{IsSince, GoesOn}
 use Rattle.bank_mirror.specs.Laws.{none_since}
 
 drop_snoc : {X : Type 0} (t : ℕ) (xs : List X) (x : X) → t ≤ length xs → drop t (xs ++ x ∷ []) ≡ drop t xs ++ x ∷ []
@@ -52,6 +53,16 @@ module _ {A B : Type 0} (a : Ghosts A) (b : Ghosts B) where
   came_last : (past : List (A × B)) (p last : A × B) (image : List ℕ) → InStep a b p last image → From a b (past ++ p ∷ []) last image
   came_last [] p last image step = inl step
   came_last (q ∷ past) p last image step = inr (came_last past p last image step)
+
+  -- one call of one of both: the same opening
+  pub called_goes : (old new : Pair A B) → new.past ≡ old.past ++ (old.first, old.second) ∷ [] → a.size new.first ≡ a.size old.first → b.size new.second ≡ b.size old.second
+      → IsSince a b (old.first, old.second) new → GoesOn a b old new
+  called_goes old new noted first_size second_size counts = record {
+    first_size = first_size;
+    second_size = second_size;
+    counts = counts;
+    same_opening = ap (λ past. first_of past (new.first, new.second)) noted ∙ first_of-snoc old.past (old.first, old.second) (new.first, new.second);
+  }
 
   leaves_on : (old new : Pair A B) (IsSuch : List ℕ → Type 0) → new.past ≡ old.past ++ (old.first, old.second) ∷ []
       → ((image : List ℕ) → InStep a b (old.first, old.second) (new.first, new.second) image → IsSuch image)

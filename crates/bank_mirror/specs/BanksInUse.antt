@@ -6,7 +6,7 @@ use Rattle.bank_mirror.specs.declared.in_use.InUse.TheVariants.{Both, FirstOut, 
 use Rattle.bank_mirror.specs.declared.in_use.Alone.{Alone}
 use Rattle.bank_mirror.specs.declared.in_use.Alone.TheVariants.{First, Second}
 use Rattle.bank_mirror.specs.Pairs.{Pair, BothTell, is_stale}
-use Rattle.bank_mirror.specs.Counts.{IsSince, FirstFailed, SecondFailed, OneStopped, MayFail}
+use Rattle.bank_mirror.specs.Counts.{IsSince, FirstFailed, SecondFailed, BothFailed, GoodFailed, OneStopped, MayFail}
 
 -- what both hold: where both are in they hold the same, and the mark says which one is out
 abbrev pub HoldsAs : InUse → List ℕ → List ℕ → Type 0
@@ -22,14 +22,15 @@ LeavesOut FirstOut old new after = (after ≡ FirstOut) × (new.first ≡ old.fi
 LeavesOut SecondOut old new after = (after ≡ SecondOut) × (new.second ≡ old.second)
 LeavesOut Unread old new after = after ≡ FirstOut → new.first ≡ old.first
 
--- which is in where one goes on alone, and the bytes that this one holds
+-- which is in where one goes on alone
 abbrev pub in_use_alone : Alone → InUse
 in_use_alone First = SecondOut
 in_use_alone Second = FirstOut
 
-abbrev pub bytes_alone : Alone → List ℕ → List ℕ → List ℕ
-bytes_alone First first second = first
-bytes_alone Second first second = take (length first) second
+-- while one goes on alone, the other one is as it was
+abbrev pub LeavesOther : {A B : Type 0} → Alone → Pair A B → Pair A B → Type 0
+LeavesOther First old new = new.second ≡ old.second
+LeavesOther Second old new = new.first ≡ old.first
 
 -- the other one isn't written; the first alone needs no call of either
 abbrev pub OtherIsLeft : {A B : Type 0} → Alone → A → B → Pair A B → Type 0
@@ -47,7 +48,7 @@ module _ {A B : Type 0} (a : Ghosts A) (b : Ghosts B) where
   IsExcused mark_failed opening pair Both = Unit {0}
   IsExcused mark_failed opening pair FirstOut = FirstFailed a b opening pair ⊎ (mark_failed ≡ true)
   IsExcused mark_failed opening pair SecondOut = SecondFailed a b opening pair ⊎ OneStopped a b opening pair ⊎ (mark_failed ≡ true)
-  IsExcused mark_failed opening pair Unread = FirstFailed a b opening pair × SecondFailed a b opening pair
+  IsExcused mark_failed opening pair Unread = BothFailed a b opening pair
 
   -- whatever excused the bank that was out excuses the one that is out now
   abbrev pub KeepsExcuse : InUse → Pair A B → Pair A B → InUse → Type 0
@@ -63,3 +64,9 @@ module _ {A B : Type 0} (a : Ghosts A) (b : Ghosts B) where
   abbrev pub HasCause : InUse → Pair A B → Pair A B → Type 0
   HasCause in_use old new = (mark_failed : Bool) (opening : A × B) → IsSince a b opening old
       → IsExcused mark_failed opening old in_use → MayFail a b mark_failed opening new
+
+  -- one goes on alone in a call, and a call that failed did so by that one
+  pub record GoesAlone (good : Alone) (old new : Pair A B) (Failed : Type 0) : Type 0 where
+    pub held : IsHeld (in_use_alone good) new
+    pub other : LeavesOther good old new
+    pub fault : Failed → GoodFailed a b good (old.first, old.second) new

@@ -1,8 +1,11 @@
 -- A mirror after its opening, and two banks that are handed back.
-use Rattle.std.specs.Prelude.{◌≡◌, ℕ, List}
+use Rattle.std.specs.Prelude.{◌≡◌, ℕ, List, Result, Ok, Err, IfOk, IfErr}
 use Rattle.tbl_outside.specs.declared.bank.Bank.{Ghosts}
 use Rattle.bank_mirror.specs.declared.mirror.OpenBack.{OpenBack}
-use Rattle.bank_mirror.specs.Pairs.{Pair, BothTell, BothTellMoments, bytes_of}
+use Rattle.bank_mirror.specs.declared.in_use.Alone.{Alone}
+use Rattle.bank_mirror.specs.declared.opening.OpenFault.{OpenFault}
+use Rattle.bank_mirror.specs.declared.opening.Opened.{Opened}
+use Rattle.bank_mirror.specs.Pairs.{Pair, BothTell, BothTellMoments, AsWas, bytes_of, bytes_alone, pair_of}
 use Rattle.bank_mirror.specs.Moments.{LeftSince}
 use Rattle.bank_mirror.specs.Counts.{IsSince, opening_of}
 use Rattle.bank_mirror.specs.Mirrors.{Mirrored}
@@ -27,3 +30,29 @@ pub record Begins {A B : Type 0} (a : Ghosts A) (b : Ghosts B) (was : A × B) (t
 pub record HandsBack {A B : Type 0} (a : Ghosts A) (b : Ghosts B) (opening : A × B) (IsSuch : List ℕ → Type 0) (back : Pair A B) : Type 0 where
   pub back_bytes : BothTell a b → IsSuch (bytes_of a b back)
   pub back_sizes : (a.size back.first ≡ a.size opening.0) × (b.size back.second ≡ b.size opening.1)
+
+-- how an opening ends: a mirror reads as these bytes, or both banks are handed back, and a reset leaves nothing but such images
+pub record Ends {A B : Type 0} (a : Ghosts A) (b : Ghosts B) (opening : A × B) (these : List ℕ) (IsSuch : List ℕ → Type 0) (result : Result (Mirrored A B) (OpenBack A B)) : Type 0 where
+  pub begins : IfOk result (Begins a b opening these)
+  pub moments : IfOk result (λ m. LeavesSince a b m.pair IsSuch)
+  pub back : IfErr result (λ back. HandsBack a b opening IsSuch (returned back))
+  pub back_moments : IfErr result (λ back. LeavesSince a b (returned back) IsSuch)
+
+-- the mirror reads as both did as one
+abbrev pub EndsAsOne : {A B : Type 0} → Ghosts A → Ghosts B → A → B → Result (Mirrored A B) (OpenBack A B) → Type 0
+EndsAsOne a b first second result = Ends a b (first, second) (pair_of (a.now first) (b.now second)) (λ image. image ≡ pair_of (a.now first) (b.now second)) result
+
+-- the mirror reads as one of them did, which the caller says is the good one
+abbrev pub EndsAlone : {A B : Type 0} → Ghosts A → Ghosts B → Alone → A → B → Result (Mirrored A B) (OpenBack A B) → Type 0
+EndsAlone a b good first second result = Ends a b (first, second) (bytes_alone good (a.now first) (b.now second)) (AsWas a b first second (bytes_alone good (a.now first) (b.now second))) result
+
+-- a mirror of both as they were opened, which counted nothing yet
+abbrev pub unused : {A B : Type 0} → Pair A B → Opened → Mirrored A B
+unused pair o = record { pair = pair; in_use = o.in_use; mark_failed = o.mark_failed; faults = 0 }
+
+-- it is that one, or both are handed back with the cause
+abbrev pub IsMade : {A B : Type 0} → Pair A B → Result Opened OpenFault → Result (Mirrored A B) (OpenBack A B) → Type 0
+IsMade pair (Ok o) (Ok mirror) = mirror ≡ unused pair o
+IsMade pair (Ok o) (Err back) = ⊥
+IsMade pair (Err cause) (Ok mirror) = ⊥
+IsMade pair (Err cause) (Err back) = (back.cause ≡ cause) × (returned back ≡ pair)

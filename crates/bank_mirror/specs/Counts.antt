@@ -4,6 +4,8 @@ use Rattle.tbl_outside.specs.declared.bank.Bank.{Ghosts}
 use Rattle.tbl_outside.specs.declared.bank.Written.{Written}
 use Rattle.tbl_outside.specs.declared.bank.Written.TheVariants.{Done, Failed, Stopped}
 use Rattle.tbl_outside.specs.Counts.{Rose, Still}
+use Rattle.bank_mirror.specs.declared.in_use.Alone.{Alone}
+use Rattle.bank_mirror.specs.declared.in_use.Alone.TheVariants.{First, Second}
 use Rattle.bank_mirror.specs.Pairs.{Pair}
 use Rattle.bank_mirror.specs.Moments.{first_of}
 
@@ -23,8 +25,17 @@ module _ {A B : Type 0} (a : Ghosts A) (b : Ghosts B) where
   abbrev pub SecondFailed : A × B → Pair A B → Type 0
   SecondFailed was pair = Rose (b.faults was.1) (b.faults pair.second)
 
+  -- both failed, and one of them did
+  abbrev pub BothFailed : A × B → Pair A B → Type 0
+  BothFailed was pair = FirstFailed was pair × SecondFailed was pair
+
   abbrev pub OneFailed : A × B → Pair A B → Type 0
   OneFailed was pair = FirstFailed was pair ⊎ SecondFailed was pair
+
+  -- the good one failed
+  abbrev pub GoodFailed : Alone → A × B → Pair A B → Type 0
+  GoodFailed First was pair = FirstFailed was pair
+  GoodFailed Second was pair = SecondFailed was pair
 
   abbrev pub OneStopped : A × B → Pair A B → Type 0
   OneStopped was pair = Rose (a.stops was.0) (a.stops pair.first) ⊎ Rose (b.stops was.1) (b.stops pair.second)
@@ -55,7 +66,7 @@ module _ {A B : Type 0} (a : Ghosts A) (b : Ghosts B) where
   -- write of the mark failed
   abbrev pub MayFail : Bool → A × B → Pair A B → Type 0
   MayFail mark_failed opening pair =
-      (FirstFailed opening pair × SecondFailed opening pair)
+      BothFailed opening pair
       ⊎ (OneFailed opening pair × OneStopped opening pair)
       ⊎ (mark_failed ≡ true)
 
@@ -65,13 +76,9 @@ module _ {A B : Type 0} (a : Ghosts A) (b : Ghosts B) where
   WriteCounted was pair Failed = OneFailed was pair × SameStops was pair
   WriteCounted was pair Stopped = OneStopped was pair
 
-  -- what rose by a write of the first, or of the second, that ended so
-  abbrev pub FirstBroke : A × B → Pair A B → Written → Type 0
-  FirstBroke was pair Done = Unit {0}
-  FirstBroke was pair Failed = FirstFailed was pair
-  FirstBroke was pair Stopped = OneStopped was pair
-
-  abbrev pub SecondBroke : A × B → Pair A B → Written → Type 0
-  SecondBroke was pair Done = Unit {0}
-  SecondBroke was pair Failed = SecondFailed was pair
-  SecondBroke was pair Stopped = OneStopped was pair
+  -- what rose by a write of the other one, over which the good one is copied
+  abbrev pub CopyBroke : Alone → A × B → Pair A B → Written → Type 0
+  CopyBroke good was pair Done = Unit {0}
+  CopyBroke First was pair Failed = SecondFailed was pair
+  CopyBroke Second was pair Failed = FirstFailed was pair
+  CopyBroke good was pair Stopped = OneStopped was pair

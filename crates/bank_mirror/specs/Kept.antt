@@ -1,16 +1,17 @@
 -- What a call leaves of what two banks hold as one.
-use Rattle.std.specs.Prelude.{◌≡◌, ◌⊎◌, ℕ, List, true, false, length, OnOk, OnErr, IfOk, Result}
+use Rattle.std.specs.Prelude.{◌≡◌, ◌⊎◌, ℕ, List, length, OnOk, OnErr, Result}
 use Rattle.tbl_kinds.specs.Numbers.{piece, patched}
 use Rattle.tbl_outside.specs.declared.bank.Bank.{Ghosts}
 use Rattle.tbl_outside.specs.declared.bank.Written.{Written}
 use Rattle.tbl_outside.specs.declared.bank.Written.TheVariants.{Done}
+use Rattle.tbl_outside.specs.Bank.{Torn}
 use Rattle.bank_mirror.specs.declared.in_use.InUse.{InUse}
 use Rattle.bank_mirror.specs.declared.in_use.InUse.TheVariants.{Unread}
-use Rattle.bank_mirror.specs.Pairs.{Pair, BothTell, BothTellMoments, SameBytes, bytes_of, front_of, is_marked}
+use Rattle.bank_mirror.specs.Pairs.{Pair, BothTell, BothTellMoments, SameBytes, bytes_of, front_of}
 use Rattle.bank_mirror.specs.Moments.{Leaves}
-use Rattle.bank_mirror.specs.Counts.{GoesOn, BothStill, OneFailed, SameStops, WriteCounted, FirstFailed, SecondFailed, FirstBroke, SecondBroke}
+use Rattle.bank_mirror.specs.Counts.{GoesOn, BothStill, OneFailed, SameStops, WriteCounted, SecondFailed}
 use Rattle.bank_mirror.specs.LastCalls.{LastReadFailed}
-use Rattle.bank_mirror.specs.BanksInUse.{IsHeld, KeepsExcuse, LeavesOut}
+use Rattle.bank_mirror.specs.BanksInUse.{IsHeld, KeepsExcuse, LeavesOut, HasCause}
 
 module _ {A B : Type 0} (a : Ghosts A) (b : Ghosts B) where
   -- they hold such bytes as one afterwards, and a reset meanwhile leaves nothing else
@@ -32,52 +33,43 @@ module _ {A B : Type 0} (a : Ghosts A) (b : Ghosts B) where
     pub moments : BothTellMoments a b → Leaves a b old new (λ image. (image ≡ a.now old.first) ⊎ (image ≡ front_of a b old))
     pub goes_on : GoesOn a b old new
 
-  -- a look at both counts nothing, or one of them failed in it, in the last call of all
+  -- a look at both changes no byte and counts nothing, or one of them failed in it, in the last call of all
   pub record Looks {T E : Type 0} (old new : Pair A B) (result : Result T E) : Type 0 where
+    pub keeps : Keeps old new
     pub done : OnOk result (BothStill a b (old.first, old.second) new)
     pub failed : OnErr result (OneFailed a b (old.first, old.second) new)
     pub last : OnErr result (LastReadFailed a b new)
 
-  -- a piece of what they hold as one is read, and no bank is stopped
+  -- the mark was read from the second, and no bank was stopped
+  pub record ReadsMark {T E : Type 0} (old new : Pair A B) (result : Result T E) : Type 0 where
+    pub keeps : Keeps old new
+    pub other : new.first ≡ old.first
+    pub stops : SameStops a b (old.first, old.second) new
+    pub done : OnOk result (BothStill a b (old.first, old.second) new)
+    pub failed : OnErr result (SecondFailed a b (old.first, old.second) new)
+    pub last : OnErr result (LastReadFailed a b new)
+
+  -- a piece of what they hold as one was read, and no bank was stopped
   pub record ReadsPiece {T E : Type 0} (old new : Pair A B) (at : ℕ) (into filled : List ℕ) (result : Result T E) : Type 0 where
     pub read : OnOk result (BothTell a b → filled ≡ piece at (length into) (bytes_of a b old))
     pub stops : SameStops a b (old.first, old.second) new
+    pub keeps : Keeps old new
 
-  -- the bytes are written over what was there, and what went wrong is counted
+  -- bytes were written over what was there, a reset meanwhile leaves no other change, and what went wrong is counted
   pub record Writes (old new : Pair A B) (at : ℕ) (bytes was : List ℕ) (written : Written) : Type 0 where
     pub done : written ≡ Done → BothTell a b → bytes_of a b new ≡ patched was at bytes
+    pub holds : HoldsOnly old new (Torn at (length bytes) was)
     pub counted : WriteCounted a b (old.first, old.second) new written
 
-  -- which is in after a call, and what is known of one that is out
-  pub record LeavesInUse (before : InUse) (old new : Pair A B) (after : InUse) : Type 0 where
+  -- the same of what they hold as one
+  abbrev pub WritesPiece : Pair A B → Pair A B → ℕ → List ℕ → Written → Type 0
+  WritesPiece old new at bytes written = Writes old new at bytes (bytes_of a b old) written
+
+  -- which is in after a call, what is known of one that is out, and why the call failed if it did
+  pub record LeavesInUse (before : InUse) (old new : Pair A B) (Failed : Type 0) (after : InUse) : Type 0 where
     pub held : IsHeld a b after new
     pub excuse : KeepsExcuse a b before old new after
     pub out : LeavesOut before old new after
     pub last : after ≡ Unread → LastReadFailed a b new
-
-  -- what a copy to the first leaves, done or not: the second, with its mark
-  pub record CopiesBack (old new : Pair A B) : Type 0 where
-    pub kept : BothTell a b → b.now new.second ≡ b.now old.second
-    pub front : BothTell a b → front_of a b new ≡ front_of a b old
-    pub stale : BothTell a b → is_marked a b new ≡ true
-    pub moments : BothTellMoments a b → Leaves a b old new (λ image. image ≡ front_of a b old)
-    pub goes_on : GoesOn a b old new
-
-  -- and how it ends
-  pub record EndsBack {E : Type 0} (old new : Pair A B) (result : Result Written E) : Type 0 where
-    pub broke : IfOk result (FirstBroke a b (old.first, old.second) new)
-    pub unread : OnErr result (SecondFailed a b (old.first, old.second) new)
-    pub last : OnErr result (LastReadFailed a b new)
-
-  -- what a copy to the second leaves, done or not: the first, and that it isn't stale
-  pub record CopiesOver (old new : Pair A B) : Type 0 where
-    pub kept : BothTell a b → a.now new.first ≡ a.now old.first
-    pub fresh : BothTell a b → is_marked a b new ≡ false
-    pub moments : BothTellMoments a b → Leaves a b old new (λ image. image ≡ a.now old.first)
-    pub goes_on : GoesOn a b old new
-
-  -- and how it ends
-  pub record EndsOver {E : Type 0} (old new : Pair A B) (result : Result Written E) : Type 0 where
-    pub broke : IfOk result (SecondBroke a b (old.first, old.second) new)
-    pub unread : OnErr result (FirstFailed a b (old.first, old.second) new)
-    pub last : OnErr result (LastReadFailed a b new)
+    pub fault : Failed → OneFailed a b (old.first, old.second) new
+    pub cause : Failed → HasCause a b before old new

@@ -50,6 +50,8 @@ fails Stopped = false
 
 -- what each call keeps to, however it ends. The mark stays unread only where the last call was a read that failed
 pub record KeepsRules {A B : Type 0} (a : Ghosts A) (b : Ghosts B) (old new : Mirrored A B) : Type 0 where
+  pub size : a.size new.pair.first ≡ a.size old.pair.first
+  pub fault_count : old.faults ≤ new.faults
   pub stop_count : stops_in a b old ≤ stops_in a b new
   pub opening : SameOpening old new
   pub out : LeavesOut old.in_use old.pair new.pair new.in_use

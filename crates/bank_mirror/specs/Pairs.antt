@@ -2,6 +2,8 @@
 use Rattle.std.specs.Prelude.{◌≡◌, ◌⊎◌, ℕ, ◌==◌, Bool, if◌then◌else◌, List, length, take}
 use Rattle.tbl_kinds.specs.Numbers.{byte_at}
 use Rattle.tbl_outside.specs.declared.bank.Bank.{Ghosts}
+use Rattle.bank_mirror.specs.declared.in_use.Alone.{Alone}
+use Rattle.bank_mirror.specs.declared.in_use.Alone.TheVariants.{First, Second}
 
 -- the byte of the second after the size of the first is the mark, and this is what it is where the first is stale
 abbrev pub stale : ℕ
@@ -37,6 +39,14 @@ front_of a b pair = take (length (a.now pair.first)) (b.now pair.second)
 
 abbrev pub is_marked : {A B : Type 0} → Ghosts A → Ghosts B → Pair A B → Bool
 is_marked a b pair = is_stale (length (a.now pair.first)) (b.now pair.second)
+
+-- what the good one holds for both
+abbrev pub bytes_alone : Alone → List ℕ → List ℕ → List ℕ
+bytes_alone First first second = first
+bytes_alone Second first second = take (length first) second
+
+abbrev pub shown_by : {A B : Type 0} → Ghosts A → Ghosts B → Alone → Pair A B → List ℕ
+shown_by a b good pair = bytes_alone good (a.now pair.first) (b.now pair.second)
 
 -- neither bank's bytes changed
 abbrev pub SameBytes : {A B : Type 0} → Ghosts A → Ghosts B → Pair A B → Pair A B → Type 0

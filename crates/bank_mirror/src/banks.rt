@@ -1,14 +1,11 @@
 //! Both banks, and each call of one of them. What a reset may leave meanwhile is an image of that one, beside the bytes
 //! of the other.
 
-ghost use Rattle.std.specs.Prelude.{◌≡◌, ◌+◌, ◌<◌, ◌≤◌, [], ◌∷◌, length, OnOk, OnErr, IfOk};
-ghost use Rattle.tbl_kinds.specs.Numbers.{piece, patched};
+ghost use Rattle.std.specs.Prelude.{◌≡◌, ◌+◌, ◌<◌, ◌≤◌, [], ◌∷◌, length, OnErr};
 ghost use Rattle.tbl_outside.specs.Bank.{Torn};
 ghost use Rattle.tbl_outside.specs.BankCalls.{write};
-ghost use Rattle.tbl_outside.specs.Counts.{Still, RoseAlone, Counted};
-ghost use Rattle.bank_mirror.specs.Pairs.{Pair, BothTellMoments, stale, is_stale};
-ghost use Rattle.bank_mirror.specs.Moments.{OfFirst, OfSecond, Leaves};
-ghost use Rattle.bank_mirror.specs.Counts.{GoesOn};
+ghost use Rattle.bank_mirror.specs.Pairs.{Pair};
+ghost use Rattle.bank_mirror.specs.Calls.{ReadsBank, WritesBank, CallsFirst, CallsSecond};
 ghost use Rattle.bank_mirror.specs.LastCalls.{LastReadFailed};
 
 use http_server::Log;
@@ -71,15 +68,9 @@ impl<A: Bank, B: Bank> Banks<A, B> {
     /// Reads a piece of the first.
     pub(crate) fn read_first(&mut self, at: u32, into: &mut [u8]) -> Result<(), Failed>
         requires { at + length into.old ≤ A.size self.old.first }
-        ensures read { OnOk result (A.tells → into.new ≡ piece at (length into.old) (A.now self.old.first)) }
-        ensures kept { A.tells → A.now self.new.first ≡ A.now self.old.first }
-        ensures other { self.new.second ≡ self.old.second }
-        ensures moments { BothTellMoments A.Bank B.Bank → Leaves A.Bank B.Bank self.old self.new
-            (OfFirst (λ image. image ≡ A.now self.old.first) (B.now self.old.second)) }
-        ensures done { OnOk result (Still A.faults A.stops self.old.first self.new.first) }
-        ensures failed { OnErr result (RoseAlone A.faults A.stops self.old.first self.new.first) }
+        ensures reads { ReadsBank A.Bank self.old.first self.new.first at into.old into.new result }
+        ensures calls { CallsFirst A.Bank B.Bank self.old self.new (λ image. image ≡ A.now self.old.first) }
         ensures last { OnErr result (LastReadFailed A.Bank B.Bank self.new) }
-        ensures goes_on { GoesOn A.Bank B.Bank self.old self.new }
     {
         let past = self.past.and(&self.first, &self.second);
         let read = self.first.read_at(at, into);
@@ -91,15 +82,9 @@ impl<A: Bank, B: Bank> Banks<A, B> {
     pub(crate) fn read_second(&mut self, at: u32, into: &mut [u8]) -> Result<(), Failed>
         requires { at + length into.old ≤ A.size self.old.first + 1 }
         ensures larger { A.size self.old.first < B.size self.old.second }
-        ensures read { OnOk result (B.tells → into.new ≡ piece at (length into.old) (B.now self.old.second)) }
-        ensures kept { B.tells → B.now self.new.second ≡ B.now self.old.second }
-        ensures other { self.new.first ≡ self.old.first }
-        ensures moments { BothTellMoments A.Bank B.Bank → Leaves A.Bank B.Bank self.old self.new
-            (OfSecond (A.now self.old.first) (λ image. image ≡ B.now self.old.second)) }
-        ensures done { OnOk result (Still B.faults B.stops self.old.second self.new.second) }
-        ensures failed { OnErr result (RoseAlone B.faults B.stops self.old.second self.new.second) }
+        ensures reads { ReadsBank B.Bank self.old.second self.new.second at into.old into.new result }
+        ensures calls { CallsSecond A.Bank B.Bank self.old self.new (λ image. image ≡ B.now self.old.second) }
         ensures last { OnErr result (LastReadFailed A.Bank B.Bank self.new) }
-        ensures goes_on { GoesOn A.Bank B.Bank self.old self.new }
     {
         let past = self.past.and(&self.first, &self.second);
         let read = self.second.read_at(at, into);
@@ -110,14 +95,9 @@ impl<A: Bank, B: Bank> Banks<A, B> {
     /// Writes over a piece of the first.
     pub(crate) fn write_first(&mut self, at: u32, bytes: &[u8]) -> Written
         requires { at + length bytes.now ≤ A.size self.old.first }
-        ensures done { result ≡ Written.Done → A.tells → A.now self.new.first ≡ patched (A.now self.old.first) at bytes.now }
-        ensures torn { A.tells → Torn at (length bytes.now) (A.now self.old.first) (A.now self.new.first) }
-        ensures other { self.new.second ≡ self.old.second }
-        ensures moments { BothTellMoments A.Bank B.Bank → Leaves A.Bank B.Bank self.old self.new
-            (OfFirst (Torn at (length bytes.now) (A.now self.old.first)) (B.now self.old.second)) }
-        ensures counted { Counted A.faults A.stops self.old.first self.new.first result }
+        ensures writes { WritesBank A.Bank self.old.first self.new.first at bytes.now result }
+        ensures calls { CallsFirst A.Bank B.Bank self.old self.new (Torn at (length bytes.now) (A.now self.old.first)) }
         ensures once { A.tells_calls self.new.first → A.calls self.new.first ≡ write at bytes.now ∷ A.calls self.old.first }
-        ensures goes_on { GoesOn A.Bank B.Bank self.old self.new }
     {
         let past = self.past.and(&self.first, &self.second);
         let written = self.first.write_at(at, bytes);
@@ -129,13 +109,8 @@ impl<A: Bank, B: Bank> Banks<A, B> {
     pub(crate) fn write_second(&mut self, at: u32, bytes: &[u8]) -> Written
         requires { at + length bytes.now ≤ A.size self.old.first + 1 }
         ensures larger { A.size self.old.first < B.size self.old.second }
-        ensures done { result ≡ Written.Done → B.tells → B.now self.new.second ≡ patched (B.now self.old.second) at bytes.now }
-        ensures torn { B.tells → Torn at (length bytes.now) (B.now self.old.second) (B.now self.new.second) }
-        ensures other { self.new.first ≡ self.old.first }
-        ensures moments { BothTellMoments A.Bank B.Bank → Leaves A.Bank B.Bank self.old self.new
-            (OfSecond (A.now self.old.first) (Torn at (length bytes.now) (B.now self.old.second))) }
-        ensures counted { Counted B.faults B.stops self.old.second self.new.second result }
-        ensures goes_on { GoesOn A.Bank B.Bank self.old self.new }
+        ensures writes { WritesBank B.Bank self.old.second self.new.second at bytes.now result }
+        ensures calls { CallsSecond A.Bank B.Bank self.old self.new (Torn at (length bytes.now) (B.now self.old.second)) }
     {
         let past = self.past.and(&self.first, &self.second);
         let written = self.second.write_at(at, bytes);

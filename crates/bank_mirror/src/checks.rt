@@ -1,14 +1,14 @@
 //! An opening that looks first, and doesn't copy a blank first bank over a live store in the second.
 
-ghost use Rattle.std.specs.Prelude.{◌≡◌, ◌≤◌, ◌&&◌, false, length, IfOk, IfErr};
-ghost use Rattle.bank_mirror.specs.Pairs.{BothTell, bytes_of};
-ghost use Rattle.bank_mirror.specs.Kept.{HoldsOnly, Keeps, Looks};
-ghost use Rattle.bank_mirror.specs.Openings.{Opens, CheckFails};
+ghost use Rattle.std.specs.Prelude.{◌≡◌, ◌≤◌, ◌&&◌, length, IfOk};
+ghost use Rattle.bank_mirror.specs.Pairs.{BothTell};
+ghost use Rattle.bank_mirror.specs.Kept.{Looks};
+ghost use Rattle.bank_mirror.specs.Openings.{EndsChecked};
 ghost use Rattle.bank_mirror.specs.Checks.{is_blank, is_live, loses_store};
 
 use crate::banks::Banks;
 use crate::copies::PIECE;
-use crate::in_use::InUse;
+use crate::in_use::Alone;
 use crate::opening::{OpenFault, Opened};
 use std::alloc::Global;
 use tbl_outside::{Bank, Failed};
@@ -18,7 +18,6 @@ impl<A: Bank, B: Bank> Banks<A, B> {
     fn first_is_blank(&mut self) -> Result<bool, Failed>
         requires room { 3 ≤ A.size self.old.first }
         ensures blank { IfOk result (λ blank. BothTell A.Bank B.Bank → blank ≡ is_blank (A.now self.old.first)) }
-        ensures keeps { Keeps A.Bank B.Bank self.old self.new }
         ensures looks { Looks A.Bank B.Bank self.old self.new result }
     {
         let mut front = [0; 3];
@@ -32,7 +31,6 @@ impl<A: Bank, B: Bank> Banks<A, B> {
     fn second_is_live(&mut self, live_mark: &[u8; 3]) -> Result<bool, Failed>
         requires room { 3 ≤ A.size self.old.first }
         ensures live { IfOk result (λ live. BothTell A.Bank B.Bank → live ≡ is_live live_mark.now (B.now self.old.second)) }
-        ensures keeps { Keeps A.Bank B.Bank self.old self.new }
         ensures looks { Looks A.Bank B.Bank self.old self.new result }
     {
         let mut front = [0; 3];
@@ -47,7 +45,6 @@ impl<A: Bank, B: Bank> Banks<A, B> {
         requires room { 3 ≤ A.size self.old.first }
         ensures is { IfOk result (λ it. BothTell A.Bank B.Bank →
             it ≡ (is_blank (A.now self.old.first) && is_live live_mark.now (B.now self.old.second))) }
-        ensures keeps { Keeps A.Bank B.Bank self.old self.new }
         ensures looks { Looks A.Bank B.Bank self.old self.new result }
     {
         match self.first_is_blank() {
@@ -62,12 +59,11 @@ impl<A: Bank, B: Bank> Banks<A, B> {
         requires room { 3 ≤ A.size self.old.first }
         ensures loses { IfOk result (λ loses. BothTell A.Bank B.Bank →
             loses ≡ loses_store live_mark.now (A.now self.old.first) (B.now self.old.second)) }
-        ensures keeps { Keeps A.Bank B.Bank self.old self.new }
         ensures looks { Looks A.Bank B.Bank self.old self.new result }
     {
-        match self.first_is_stale() {
-            Ok(true) => Ok(false),
-            Ok(false) => self.is_blank_over_live(live_mark),
+        match self.good_one() {
+            Ok(Alone::First) => self.is_blank_over_live(live_mark),
+            Ok(Alone::Second) => Ok(false),
             Err(Failed) => Err(Failed),
         }
     }
@@ -76,10 +72,7 @@ impl<A: Bank, B: Bank> Banks<A, B> {
     fn agree_checked(&mut self, buffer: &mut [u8], live_mark: &[u8; 3]) -> Result<Opened, OpenFault>
         requires buffer { length buffer.old ≡ PIECE }
         requires room { 3 ≤ A.size self.old.first }
-        ensures opened { IfOk result (λ opened. Opens A.Bank B.Bank (self.old.first, self.old.second) self.new opened.in_use opened.mark_failed) }
-        ensures keeps { IfOk result (λ _. BothTell A.Bank B.Bank → loses_store live_mark.now (A.now self.old.first) (B.now self.old.second) ≡ false) }
-        ensures failed { IfErr result (CheckFails A.Bank B.Bank live_mark.now (self.old.first, self.old.second) self.new) }
-        ensures holds { HoldsOnly A.Bank B.Bank self.old self.new (λ image. image ≡ bytes_of A.Bank B.Bank self.old) }
+        ensures { EndsChecked A.Bank B.Bank live_mark.now self.old self.new result }
     {
         match self.loses_store(live_mark) {
             Ok(true) => Err(OpenFault::Blank),
@@ -96,10 +89,7 @@ impl<A: Bank, B: Bank> Banks<A, B> {
         live_mark: &[u8; 3],
     ) -> Result<Opened, OpenFault>
         requires room { 3 ≤ A.size self.old.first }
-        ensures opened { IfOk result (λ opened. Opens A.Bank B.Bank (self.old.first, self.old.second) self.new opened.in_use opened.mark_failed) }
-        ensures keeps { IfOk result (λ _. BothTell A.Bank B.Bank → loses_store live_mark.now (A.now self.old.first) (B.now self.old.second) ≡ false) }
-        ensures failed { IfErr result (CheckFails A.Bank B.Bank live_mark.now (self.old.first, self.old.second) self.new) }
-        ensures holds { HoldsOnly A.Bank B.Bank self.old self.new (λ image. image ≡ bytes_of A.Bank B.Bank self.old) }
+        ensures { EndsChecked A.Bank B.Bank live_mark.now self.old self.new result }
     {
         let mut buffer = vec![in alloc; 0; PIECE as usize]?;
         self.agree_checked(&mut buffer, live_mark)

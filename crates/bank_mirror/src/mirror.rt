@@ -1,22 +1,18 @@
 // Two banks as one bank.
-ghost use Rattle.std.specs.Prelude.{◌≡◌, ◌+◌, ◌<◌, ◌≤◌, ◌∷◌, [], List, ℕ, true, false, if◌then◌else◌, length, take, OnOk, OnErr, IfOk, IfErr};
-ghost use Rattle.tbl_kinds.specs.Numbers.{piece, patched, byte_at};
+ghost use Rattle.std.specs.Prelude.{◌≡◌, ◌+◌, ◌<◌, ◌≤◌, ◌∷◌, [], List, ℕ, true, false, if◌then◌else◌, length, OnOk, OnErr, IfOk, IfErr};
+ghost use Rattle.tbl_kinds.specs.Numbers.{piece, patched};
 ghost use Rattle.tbl_outside.specs.Bank.{Torn, LeavesOnly};
 ghost use Rattle.tbl_outside.specs.BankCalls.{read, write};
 ghost use Rattle.tbl_outside.specs.Counts.{Still, RoseAlone, Counted, risen};
-ghost use Rattle.bank_mirror.specs.Pairs.{BothTell, BothTellMoments, AsWas, is_stale, bytes_of, pair_of};
-ghost use Rattle.bank_mirror.specs.Moments.{LeftSince};
-ghost use Rattle.bank_mirror.specs.Counts.{SecondFailed, OneFailed, IsSince, MayFail, opening_of};
-ghost use Rattle.bank_mirror.specs.LastCalls.{LastReadFailed};
-ghost use Rattle.bank_mirror.specs.Openings.{OpenCounted, CallsCounted, Opens, OpensMarked, OpenFails, CheckFails};
-ghost use Rattle.bank_mirror.specs.Begun.{Begins, HandsBack, LeavesSince, returned};
+ghost use Rattle.bank_mirror.specs.Pairs.{BothTell, BothTellMoments, is_stale, bytes_of};
+ghost use Rattle.bank_mirror.specs.Openings.{Opens, OpensAlone, OpenCounted, OpenFails, CheckFails, AloneFails};
+ghost use Rattle.bank_mirror.specs.Begun.{EndsAsOne, EndsAlone, IsMade, unused, returned};
 ghost use Rattle.bank_mirror.specs.Checks.{loses_store};
-ghost use Rattle.bank_mirror.specs.BanksInUse.{IsHeld, IsExcused, LeavesOut, in_use_alone, bytes_alone, OtherIsLeft};
-ghost use Rattle.bank_mirror.specs.Mirrors.{moment_of, LeftSinceOf, faults_of, stops_in, fails, KeepsRules, FailsFor};
+ghost use Rattle.bank_mirror.specs.Mirrors.{IsMirror, moment_of, LeftSinceOf, faults_of, stops_in, fails, KeepsRules, FailsFor};
 
 use crate::banks::Banks;
 use crate::in_use::{Alone, InUse};
-use crate::opening::OpenFault;
+use crate::opening::{OpenFault, Opened};
 use http_server::Log;
 use std::alloc::Global;
 use std::marker::Model;
@@ -51,19 +47,30 @@ pub struct OpenBack<A: Bank, B: Bank> {
     pub past: Log<A, B>,
 }
 
-/// Both banks, handed back with the cause.
-fn back_of<A: Bank, B: Bank>(banks: Banks<A, B>, cause: OpenFault) -> OpenBack<A, B>
-    ensures cause { result.cause ≡ cause }
-    ensures first { result.first ≡ banks.first }
-    ensures second { result.second ≡ banks.second }
-    ensures past { result.past.items ≡ banks.past }
+/// A mirror of both banks as they were opened, or both handed back with the cause.
+fn made<A: Bank, B: Bank>(
+    banks: Banks<A, B>,
+    opened: Result<Opened, OpenFault>,
+) -> Result<Mirror<A, B>, OpenBack<A, B>>
+    requires { IfOk opened (λ o. IsMirror A.Bank B.Bank (unused banks o)) }
+    ensures { IsMade banks opened result }
 {
-    let (first, second, past) = banks.end();
-    OpenBack {
-        cause,
-        first,
-        second,
-        past,
+    match opened {
+        Ok(opened) => Ok(Mirror {
+            banks,
+            in_use: opened.in_use,
+            mark_failed: opened.mark_failed,
+            faults: 0,
+        }),
+        Err(cause) => {
+            let (first, second, past) = banks.end();
+            Err(OpenBack {
+                cause,
+                first,
+                second,
+                past,
+            })
+        }
     }
 }
 
@@ -73,25 +80,13 @@ impl<A: Bank, B: Bank> Mirror<A, B> {
     /// bank in which a write of the copy fails is out. All memory that it needs is taken before the first call.
     pub fn open(alloc: Global, first: A, second: B) -> Result<Mirror<A, B>, OpenBack<A, B>>
         requires { A.size first < B.size second }
-        ensures begins { IfOk result (Begins A.Bank B.Bank (first, second) (pair_of (A.now first) (B.now second))) }
-        ensures opened { IfOk result (λ m. Opens A.Bank B.Bank (first, second) m.pair m.in_use m.mark_failed) }
-        ensures moments { IfOk result (λ m. LeavesSince A.Bank B.Bank m.pair (λ image. image ≡ pair_of (A.now first) (B.now second))) }
-
-        ensures back { IfErr result (λ back. HandsBack A.Bank B.Bank (first, second) (λ image. image ≡ pair_of (A.now first) (B.now second)) (returned back)) }
-        ensures back_moments { IfErr result (λ back. LeavesSince A.Bank B.Bank (returned back)
-            (λ image. image ≡ pair_of (A.now first) (B.now second))) }
+        ensures ends { EndsAsOne A.Bank B.Bank first second result }
+        ensures opened { IfOk result (λ m. Opens A.Bank B.Bank (is_stale (length (A.now first)) (B.now second)) (first, second) m.pair m.in_use m.mark_failed) }
         ensures failed { IfErr result (λ back. OpenFails A.Bank B.Bank (first, second) (returned back) back.cause) }
     {
         let mut banks = Banks::make(first, second);
-        match banks.open(alloc) {
-            Ok(opened) => Ok(Mirror {
-                banks,
-                in_use: opened.in_use,
-                mark_failed: opened.mark_failed,
-                faults: 0,
-            }),
-            Err(cause) => Err(back_of(banks, cause)),
-        }
+        let opened = banks.open(alloc);
+        made(banks, opened)
     }
 
     /// Opens two banks as one, as `open` does, unless the first is blank and the second has a live store: the first one's bytes
@@ -105,27 +100,15 @@ impl<A: Bank, B: Bank> Mirror<A, B> {
     ) -> Result<Mirror<A, B>, OpenBack<A, B>>
         requires room { A.size first < B.size second }
         requires front { 3 ≤ A.size first }
-        ensures begins { IfOk result (Begins A.Bank B.Bank (first, second) (pair_of (A.now first) (B.now second))) }
-        ensures opened { IfOk result (λ m. Opens A.Bank B.Bank (first, second) m.pair m.in_use m.mark_failed) }
-        ensures moments { IfOk result (λ m. LeavesSince A.Bank B.Bank m.pair (λ image. image ≡ pair_of (A.now first) (B.now second))) }
+        ensures ends { EndsAsOne A.Bank B.Bank first second result }
+        ensures opened { IfOk result (λ m. Opens A.Bank B.Bank (is_stale (length (A.now first)) (B.now second)) (first, second) m.pair m.in_use m.mark_failed) }
         // It opens both unless a blank first would be copied over a store, and in that case it writes to neither.
         ensures keeps { IfOk result (λ m. BothTell A.Bank B.Bank → loses_store live_mark.now (A.now first) (B.now second) ≡ false) }
-
-        ensures back { IfErr result (λ back. HandsBack A.Bank B.Bank (first, second) (λ image. image ≡ pair_of (A.now first) (B.now second)) (returned back)) }
-        ensures back_moments { IfErr result (λ back. LeavesSince A.Bank B.Bank (returned back)
-            (λ image. image ≡ pair_of (A.now first) (B.now second))) }
         ensures failed { IfErr result (λ back. CheckFails A.Bank B.Bank live_mark.now (first, second) (returned back) back.cause) }
     {
         let mut banks = Banks::make(first, second);
-        match banks.open_checked(alloc, live_mark) {
-            Ok(opened) => Ok(Mirror {
-                banks,
-                in_use: opened.in_use,
-                mark_failed: opened.mark_failed,
-                faults: 0,
-            }),
-            Err(cause) => Err(back_of(banks, cause)),
-        }
+        let opened = banks.open_checked(alloc, live_mark);
+        made(banks, opened)
     }
 
     /// Opens two banks as one, of which the second is the good one, whatever its mark says: the mark is set first, and then
@@ -133,25 +116,13 @@ impl<A: Bank, B: Bank> Mirror<A, B> {
     /// All memory that it needs is taken before the first call.
     pub fn take_second(alloc: Global, first: A, second: B) -> Result<Mirror<A, B>, OpenBack<A, B>>
         requires { A.size first < B.size second }
-        ensures begins { IfOk result (Begins A.Bank B.Bank (first, second) (take (length (A.now first)) (B.now second))) }
-        ensures opened { IfOk result (λ m. OpensMarked A.Bank B.Bank (first, second) m.pair m.in_use m.mark_failed) }
-        ensures moments { IfOk result (λ m. LeavesSince A.Bank B.Bank m.pair (AsWas A.Bank B.Bank first second (take (length (A.now first)) (B.now second)))) }
-
-        ensures back { IfErr result (λ back. HandsBack A.Bank B.Bank (first, second) (AsWas A.Bank B.Bank first second (take (length (A.now first)) (B.now second))) (returned back)) }
-        ensures back_moments { IfErr result (λ back. LeavesSince A.Bank B.Bank (returned back)
-            (AsWas A.Bank B.Bank first second (take (length (A.now first)) (B.now second)))) }
+        ensures ends { EndsAlone A.Bank B.Bank Alone.Second first second result }
+        ensures opened { IfOk result (λ m. Opens A.Bank B.Bank true (first, second) m.pair m.in_use m.mark_failed) }
         ensures counted { IfErr result (λ back. OpenCounted A.Bank B.Bank (first, second) (returned back) back.cause) }
     {
         let mut banks = Banks::make(first, second);
-        match banks.open_second(alloc) {
-            Ok(opened) => Ok(Mirror {
-                banks,
-                in_use: opened.in_use,
-                mark_failed: opened.mark_failed,
-                faults: 0,
-            }),
-            Err(cause) => Err(back_of(banks, cause)),
-        }
+        let opened = banks.open_second(alloc);
+        made(banks, opened)
     }
 
     /// Opens two banks as one of which one goes on alone, as the other doesn't answer. The second alone is marked as the good
@@ -159,32 +130,14 @@ impl<A: Bank, B: Bank> Mirror<A, B> {
     /// the next opening of both copies the one that went on over the other. Each failure of the one that goes on is told.
     pub fn open_alone(first: A, second: B, alone: Alone) -> Result<Mirror<A, B>, OpenBack<A, B>>
         requires room { A.size first < B.size second }
-        requires fresh { alone ≡ Alone.First → BothTell A.Bank B.Bank →
-            is_stale (length (A.now first)) (B.now second) ≡ false }
-        ensures begins { IfOk result (Begins A.Bank B.Bank (first, second) (bytes_alone alone (A.now first) (B.now second))) }
-        ensures moments { IfOk result (λ m. LeavesSince A.Bank B.Bank m.pair (AsWas A.Bank B.Bank first second (bytes_alone alone (A.now first) (B.now second)))) }
-        ensures in_use { IfOk result (λ m. m.in_use ≡ in_use_alone alone) }
-        ensures held { IfOk result (λ m. IsHeld A.Bank B.Bank m.in_use m.pair) }
-        ensures left { IfOk result (λ m. OtherIsLeft alone first second m.pair) }
-        ensures mark { IfOk result (λ m. m.mark_failed ≡ true) }
-
-        ensures back { IfErr result (λ back. HandsBack A.Bank B.Bank (first, second) (AsWas A.Bank B.Bank first second (bytes_alone alone (A.now first) (B.now second))) (returned back)) }
-        ensures back_moments { IfErr result (λ back. LeavesSince A.Bank B.Bank (returned back)
-            (AsWas A.Bank B.Bank first second (bytes_alone alone (A.now first) (B.now second)))) }
-        ensures back_first { IfErr result (λ back. back.first ≡ first) }
-        ensures first { alone ≡ Alone.First → IfErr result (λ _. ⊥) }
-        ensures counted { IfErr result (λ back. CallsCounted A.Bank B.Bank (first, second) (returned back) back.cause) }
+        requires fresh { alone ≡ Alone.First → BothTell A.Bank B.Bank → is_stale (length (A.now first)) (B.now second) ≡ false }
+        ensures ends { EndsAlone A.Bank B.Bank alone first second result }
+        ensures opened { IfOk result (λ m. OpensAlone A.Bank B.Bank alone (first, second) m.pair m.in_use m.mark_failed) }
+        ensures failed { IfErr result (λ back. AloneFails A.Bank B.Bank alone (first, second) (returned back) back.cause) }
     {
         let mut banks = Banks::make(first, second);
-        match banks.leave_out(alone) {
-            Ok(in_use) => Ok(Mirror {
-                banks,
-                in_use,
-                mark_failed: true,
-                faults: 0,
-            }),
-            Err(cause) => Err(back_of(banks, cause)),
-        }
+        let opened = banks.leave_out(alone);
+        made(banks, opened)
     }
 
     /// Which of the two is in.
@@ -281,12 +234,8 @@ impl<A: Bank, B: Bank> Bank for Mirror<A, B> {
             bytes_of A.Bank B.Bank self.new.pair ≡ bytes_of A.Bank B.Bank self.old.pair }
         ensures moments { BothTellMoments A.Bank B.Bank → LeavesOnly moment_of (LeftSinceOf A.Bank B.Bank) self.old self.new
             (λ image. image ≡ bytes_of A.Bank B.Bank self.old.pair) }
-        ensures size { A.size self.new.pair.first ≡ A.size self.old.pair.first }
         ensures done { OnOk result (Still faults_of (stops_in A.Bank B.Bank) self.old self.new) }
         ensures failed { OnErr result (RoseAlone faults_of (stops_in A.Bank B.Bank) self.old self.new) }
-        ensures fault_count { self.old.faults ≤ self.new.faults }
-        ensures told { ⊥ → ⊥ }
-        ensures bank_calls { ⊥ → [] ≡ read at (length into.old) ∷ [] }
         ensures rules { KeepsRules A.Bank B.Bank self.old self.new }
         ensures why { OnErr result (FailsFor A.Bank B.Bank self.old self.new) }
 
@@ -307,11 +256,7 @@ impl<A: Bank, B: Bank> Bank for Mirror<A, B> {
             (bytes_of A.Bank B.Bank self.old.pair) (bytes_of A.Bank B.Bank self.new.pair) }
         ensures moments { BothTellMoments A.Bank B.Bank → LeavesOnly moment_of (LeftSinceOf A.Bank B.Bank) self.old self.new
             (Torn at (length bytes.now) (bytes_of A.Bank B.Bank self.old.pair)) }
-        ensures size { A.size self.new.pair.first ≡ A.size self.old.pair.first }
         ensures counted { Counted faults_of (stops_in A.Bank B.Bank) self.old self.new result }
-        ensures fault_count { self.old.faults ≤ self.new.faults }
-        ensures told { ⊥ → ⊥ }
-        ensures bank_calls { ⊥ → [] ≡ write at bytes.now ∷ [] }
         ensures rules { KeepsRules A.Bank B.Bank self.old self.new }
         ensures why { result ≡ Written.Failed → FailsFor A.Bank B.Bank self.old self.new }
 

@@ -1,13 +1,14 @@
 //! An opening of two banks as one: afterwards both hold the same, or one of them is out.
 
 ghost use Rattle.std.specs.Prelude.{◌≡◌, true, false, length, IfOk, IfErr};
-ghost use Rattle.bank_mirror.specs.Pairs.{BothTell, bytes_of, front_of, is_marked};
-ghost use Rattle.bank_mirror.specs.Kept.{HoldsOnly, Keeps};
-ghost use Rattle.bank_mirror.specs.Openings.{Opens, OpensMarked, OpensByMark, CallsFail, OpenFails};
+ghost use Rattle.bank_mirror.specs.Pairs.{BothTell, bytes_of, is_marked, shown_by};
+ghost use Rattle.bank_mirror.specs.BanksInUse.{IsHeld};
+ghost use Rattle.bank_mirror.specs.Kept.{HoldsOnly};
+ghost use Rattle.bank_mirror.specs.Openings.{Opens, OpenFails, EndsOpening};
 
 use crate::banks::Banks;
 use crate::copies::PIECE;
-use crate::in_use::InUse;
+use crate::in_use::{Alone, InUse};
 use std::alloc::{AllocError, Global};
 use tbl_outside::{Bank, Failed, Written};
 use thiserror::Error;
@@ -51,7 +52,7 @@ pub(crate) struct Opened {
 impl<A: Bank, B: Bank> Banks<A, B> {
     /// Makes both hold what they hold together. All memory that it needs is taken before the first call.
     pub(crate) fn open(&mut self, alloc: Global) -> Result<Opened, OpenFault>
-        ensures opened { IfOk result (λ opened. Opens A.Bank B.Bank (self.old.first, self.old.second) self.new opened.in_use opened.mark_failed) }
+        ensures opened { IfOk result (λ o. Opens A.Bank B.Bank (is_marked A.Bank B.Bank self.old) (self.old.first, self.old.second) self.new o.in_use o.mark_failed) }
         ensures failed { IfErr result (OpenFails A.Bank B.Bank (self.old.first, self.old.second) self.new) }
         ensures holds { HoldsOnly A.Bank B.Bank self.old self.new (λ image. image ≡ bytes_of A.Bank B.Bank self.old) }
     {
@@ -62,13 +63,11 @@ impl<A: Bank, B: Bank> Banks<A, B> {
     /// Makes both hold what they hold together, by way of a buffer.
     pub(crate) fn agree(&mut self, buffer: &mut [u8]) -> Result<Opened, OpenFault>
         requires { length buffer.old ≡ PIECE }
-        ensures opened { IfOk result (λ opened. Opens A.Bank B.Bank (self.old.first, self.old.second) self.new opened.in_use opened.mark_failed) }
-        ensures failed { IfErr result (CallsFail A.Bank B.Bank (self.old.first, self.old.second) self.new) }
-        ensures holds { HoldsOnly A.Bank B.Bank self.old self.new (λ image. image ≡ bytes_of A.Bank B.Bank self.old) }
+        ensures { EndsOpening A.Bank B.Bank (is_marked A.Bank B.Bank self.old) (λ image. image ≡ bytes_of A.Bank B.Bank self.old) self.old self.new result }
     {
-        match self.first_is_stale() {
-            Ok(true) => self.copy_back(buffer),
-            Ok(false) => self.copy_over(buffer),
+        match self.good_one() {
+            Ok(Alone::First) => self.copy_over(buffer),
+            Ok(Alone::Second) => self.copy_back(buffer),
             Err(Failed) => Err(OpenFault::Fault),
         }
     }
@@ -76,12 +75,11 @@ impl<A: Bank, B: Bank> Banks<A, B> {
     /// Copies the first over the second's front.
     fn copy_over(&mut self, buffer: &mut [u8]) -> Result<Opened, OpenFault>
         requires buffer { length buffer.old ≡ PIECE }
-        requires fresh { BothTell A.Bank B.Bank → is_marked A.Bank B.Bank self.old ≡ false }
-        ensures opened { IfOk result (λ opened. Opens A.Bank B.Bank (self.old.first, self.old.second) self.new opened.in_use opened.mark_failed) }
-        ensures failed { IfErr result (CallsFail A.Bank B.Bank (self.old.first, self.old.second) self.new) }
-        ensures holds { HoldsOnly A.Bank B.Bank self.old self.new (λ image. image ≡ A.now self.old.first) }
+        requires held { IsHeld A.Bank B.Bank InUse.SecondOut self.old }
+        ensures ends { EndsOpening A.Bank B.Bank false (λ image. image ≡ shown_by A.Bank B.Bank Alone.First self.old) self.old self.new result }
+        ensures mark { IfOk result (λ o. o.mark_failed ≡ false) }
     {
-        match self.copy_to_second(buffer) {
+        match self.copy_from(Alone::First, buffer) {
             Ok(Written::Done) => Ok(Opened {
                 in_use: InUse::Both,
                 mark_failed: false,
@@ -98,12 +96,10 @@ impl<A: Bank, B: Bank> Banks<A, B> {
     /// Copies the second's front over the first, and takes the mark away last.
     fn copy_back(&mut self, buffer: &mut [u8]) -> Result<Opened, OpenFault>
         requires buffer { length buffer.old ≡ PIECE }
-        requires stale { BothTell A.Bank B.Bank → is_marked A.Bank B.Bank self.old ≡ true }
-        ensures opened { IfOk result (λ opened. OpensMarked A.Bank B.Bank (self.old.first, self.old.second) self.new opened.in_use opened.mark_failed) }
-        ensures failed { IfErr result (CallsFail A.Bank B.Bank (self.old.first, self.old.second) self.new) }
-        ensures holds { HoldsOnly A.Bank B.Bank self.old self.new (λ image. image ≡ front_of A.Bank B.Bank self.old) }
+        requires held { IsHeld A.Bank B.Bank InUse.FirstOut self.old }
+        ensures { EndsOpening A.Bank B.Bank true (λ image. image ≡ shown_by A.Bank B.Bank Alone.Second self.old) self.old self.new result }
     {
-        match self.copy_to_first(buffer) {
+        match self.copy_from(Alone::Second, buffer) {
             Ok(Written::Done) => self.clear_mark(),
             Ok(Written::Failed) => Ok(Opened {
                 in_use: InUse::FirstOut,
@@ -114,39 +110,24 @@ impl<A: Bank, B: Bank> Banks<A, B> {
         }
     }
 
-    /// Takes the mark away, where both hold the same.
+    /// Takes the mark away, where both hold the same. After a write of it that failed it says which is in.
     fn clear_mark(&mut self) -> Result<Opened, OpenFault>
-        requires { BothTell A.Bank B.Bank → front_of A.Bank B.Bank self.old ≡ A.now self.old.first }
-        ensures opened { IfOk result (λ opened. OpensMarked A.Bank B.Bank (self.old.first, self.old.second) self.new opened.in_use opened.mark_failed) }
-        ensures failed { IfErr result (CallsFail A.Bank B.Bank (self.old.first, self.old.second) self.new) }
-        ensures holds { HoldsOnly A.Bank B.Bank self.old self.new (λ image. image ≡ A.now self.old.first) }
+        requires { BothTell A.Bank B.Bank → shown_by A.Bank B.Bank Alone.Second self.old ≡ A.now self.old.first }
+        ensures { EndsOpening A.Bank B.Bank true (λ image. image ≡ A.now self.old.first) self.old self.new result }
     {
         match self.write_mark(0) {
             Written::Done => Ok(Opened {
                 in_use: InUse::Both,
                 mark_failed: false,
             }),
-            Written::Failed => self.open_by_mark(),
+            Written::Failed => match self.good_one() {
+                Ok(good) => Ok(Opened {
+                    in_use: good.in_use(),
+                    mark_failed: true,
+                }),
+                Err(Failed) => Err(OpenFault::Fault),
+            },
             Written::Stopped => Err(OpenFault::Stopped),
-        }
-    }
-
-    /// Which bank is in by the mark, after a write of it that failed.
-    fn open_by_mark(&mut self) -> Result<Opened, OpenFault>
-        ensures opened { IfOk result (λ opened. OpensByMark A.Bank B.Bank (self.old.first, self.old.second) self.new opened.in_use opened.mark_failed) }
-        ensures failed { IfErr result (CallsFail A.Bank B.Bank (self.old.first, self.old.second) self.new) }
-        ensures keeps { Keeps A.Bank B.Bank self.old self.new }
-    {
-        match self.first_is_stale() {
-            Ok(true) => Ok(Opened {
-                in_use: InUse::FirstOut,
-                mark_failed: true,
-            }),
-            Ok(false) => Ok(Opened {
-                in_use: InUse::SecondOut,
-                mark_failed: true,
-            }),
-            Err(Failed) => Err(OpenFault::Fault),
         }
     }
 }

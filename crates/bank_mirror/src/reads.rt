@@ -1,13 +1,12 @@
 //! A read of what the two banks hold together, from one that is in.
 
-ghost use Rattle.std.specs.Prelude.{◌≡◌, ◌+◌, ◌≤◌, true, false, length, OnErr};
-ghost use Rattle.bank_mirror.specs.Pairs.{BothTell, is_marked};
-ghost use Rattle.bank_mirror.specs.Counts.{FirstFailed, SecondFailed, OneFailed};
-ghost use Rattle.bank_mirror.specs.BanksInUse.{IsHeld, HasCause};
-ghost use Rattle.bank_mirror.specs.Kept.{Keeps, ReadsPiece, LeavesInUse};
+ghost use Rattle.std.specs.Prelude.{◌≡◌, ◌+◌, ◌≤◌, length, OnErr, IsErr};
+ghost use Rattle.bank_mirror.specs.Counts.{BothFailed};
+ghost use Rattle.bank_mirror.specs.BanksInUse.{IsHeld, in_use_alone, GoesAlone};
+ghost use Rattle.bank_mirror.specs.Kept.{ReadsPiece, LeavesInUse};
 
 use crate::banks::Banks;
-use crate::in_use::InUse;
+use crate::in_use::{Alone, InUse};
 use tbl_outside::{Bank, Failed};
 
 /// How a read ended, and which bank is in then.
@@ -23,51 +22,37 @@ impl<A: Bank, B: Bank> Banks<A, B> {
         requires room { at + length into.old ≤ A.size self.old.first }
         requires held { IsHeld A.Bank B.Bank in_use self.old }
         ensures piece { ReadsPiece A.Bank B.Bank self.old self.new at into.old into.new result.read }
-        ensures keeps { Keeps A.Bank B.Bank self.old self.new }
-        ensures in_use { LeavesInUse A.Bank B.Bank in_use self.old self.new result.in_use }
-        ensures failed { OnErr result.read (OneFailed A.Bank B.Bank (self.old.first, self.old.second) self.new) }
-        ensures cause { OnErr result.read (HasCause A.Bank B.Bank in_use self.old self.new) }
+        ensures in_use { LeavesInUse A.Bank B.Bank in_use self.old self.new (IsErr result.read) result.in_use }
         ensures stays { (in_use ≡ InUse.Unread → ⊥) → result.in_use ≡ in_use }
     {
         match in_use {
             InUse::Both => ReadEnd {
                 read: self.read_either(at, into),
-                in_use: InUse::Both,
+                in_use,
             },
             InUse::FirstOut => ReadEnd {
-                read: self.read_from_second(at, into),
-                in_use: InUse::FirstOut,
+                read: self.read_alone(Alone::Second, at, into),
+                in_use,
             },
             InUse::SecondOut => ReadEnd {
-                read: self.read_from_first(at, into),
-                in_use: InUse::SecondOut,
+                read: self.read_alone(Alone::First, at, into),
+                in_use,
             },
             InUse::Unread => self.read_unread(at, into),
         }
     }
 
-    /// Reads a piece of the first, while the second is out.
-    fn read_from_first(&mut self, at: u32, into: &mut [u8]) -> Result<(), Failed>
+    /// Reads a piece of the good one, while the other one is out.
+    fn read_alone(&mut self, good: Alone, at: u32, into: &mut [u8]) -> Result<(), Failed>
         requires room { at + length into.old ≤ A.size self.old.first }
-        requires fresh { BothTell A.Bank B.Bank → is_marked A.Bank B.Bank self.old ≡ false }
+        requires held { IsHeld A.Bank B.Bank (in_use_alone good) self.old }
         ensures piece { ReadsPiece A.Bank B.Bank self.old self.new at into.old into.new result }
-        ensures keeps { Keeps A.Bank B.Bank self.old self.new }
-        ensures failed { OnErr result (FirstFailed A.Bank B.Bank (self.old.first, self.old.second) self.new) }
-        ensures other { self.new.second ≡ self.old.second }
+        ensures alone { GoesAlone A.Bank B.Bank good self.old self.new (IsErr result) }
     {
-        self.read_first(at, into)
-    }
-
-    /// Reads a piece of the second, while the first is out.
-    fn read_from_second(&mut self, at: u32, into: &mut [u8]) -> Result<(), Failed>
-        requires room { at + length into.old ≤ A.size self.old.first }
-        requires stale { BothTell A.Bank B.Bank → is_marked A.Bank B.Bank self.old ≡ true }
-        ensures piece { ReadsPiece A.Bank B.Bank self.old self.new at into.old into.new result }
-        ensures keeps { Keeps A.Bank B.Bank self.old self.new }
-        ensures failed { OnErr result (SecondFailed A.Bank B.Bank (self.old.first, self.old.second) self.new) }
-        ensures other { self.new.first ≡ self.old.first }
-    {
-        self.read_second(at, into)
+        match good {
+            Alone::First => self.read_first(at, into),
+            Alone::Second => self.read_second(at, into),
+        }
     }
 
     /// Reads a piece of the first, and where that fails of the second.
@@ -75,32 +60,24 @@ impl<A: Bank, B: Bank> Banks<A, B> {
         requires room { at + length into.old ≤ A.size self.old.first }
         requires held { IsHeld A.Bank B.Bank InUse.Both self.old }
         ensures piece { ReadsPiece A.Bank B.Bank self.old self.new at into.old into.new result }
-        ensures keeps { Keeps A.Bank B.Bank self.old self.new }
-        ensures failed { OnErr result (FirstFailed A.Bank B.Bank (self.old.first, self.old.second) self.new × SecondFailed A.Bank B.Bank (self.old.first, self.old.second) self.new) }
+        ensures failed { OnErr result (BothFailed A.Bank B.Bank (self.old.first, self.old.second) self.new) }
     {
-        match self.read_from_first(at, into) {
+        match self.read_first(at, into) {
             Ok(()) => Ok(()),
             Err(Failed) => self.read_second(at, into),
         }
     }
 
-    /// Reads the mark back, and then a piece by what it says.
+    /// Reads the mark back, and then a piece of the one that is good by it.
     fn read_unread(&mut self, at: u32, into: &mut [u8]) -> ReadEnd
         requires room { at + length into.old ≤ A.size self.old.first }
         ensures piece { ReadsPiece A.Bank B.Bank self.old self.new at into.old into.new result.read }
-        ensures keeps { Keeps A.Bank B.Bank self.old self.new }
-        ensures in_use { LeavesInUse A.Bank B.Bank InUse.Unread self.old self.new result.in_use }
-        ensures failed { OnErr result.read (OneFailed A.Bank B.Bank (self.old.first, self.old.second) self.new) }
-        ensures cause { OnErr result.read (HasCause A.Bank B.Bank InUse.Unread self.old self.new) }
+        ensures in_use { LeavesInUse A.Bank B.Bank InUse.Unread self.old self.new (IsErr result.read) result.in_use }
     {
-        match self.first_is_stale() {
-            Ok(true) => ReadEnd {
-                read: self.read_from_second(at, into),
-                in_use: InUse::FirstOut,
-            },
-            Ok(false) => ReadEnd {
-                read: self.read_from_first(at, into),
-                in_use: InUse::SecondOut,
+        match self.good_one() {
+            Ok(good) => ReadEnd {
+                read: self.read_alone(good, at, into),
+                in_use: good.in_use(),
             },
             Err(Failed) => ReadEnd {
                 read: Err(Failed),

@@ -2,7 +2,7 @@ use Rattle.std.proofs.Common.{◌≡◌, true, false, sym, ◌∙◌, ap}
 use Rattle.std.proofs.lemmas.Result.{IfOk-weaker}
 use Rattle.std.specs.Prelude.{◌&&◌}
 use Rattle.bank_mirror.specs.Checks.{is_blank, is_live}
-use Rattle.bank_mirror.proofs.Opened.{keeps_twice, looks_twice}
+use Rattle.bank_mirror.proofs.Calling.{looks_twice}
 use Rattle.bank_mirror.proofs.banks.Banks.is_blank_over_live.Goals as goal
 
 pub returns-in-Ok-true-clause-is : goal.returns-in-Ok-true-clause-is
@@ -11,19 +11,13 @@ returns-in-Ok-true-clause-is g c =
     (λ it live told.
     let blank : is_blank (g.A.Bank.now c.args.self.now.first) ≡ true = sym (c.in-Ok-true.ensures.blank told) ∙ c.in-Ok-true.field-0-test in
     live told
-    ∙ ap (is_live c.args.live_mark.now) (c.first_is_blank.ensures.keeps.kept told).1
+    ∙ ap (is_live c.args.live_mark.now) (c.first_is_blank.ensures.looks.keeps.kept told).1
     ∙ ap (λ z. z && is_live c.args.live_mark.now (g.B.Bank.now c.args.self.now.second)) (sym blank))
     c.second_is_live.ensures.live
 
-pub returns-in-Ok-true-clause-keeps : goal.returns-in-Ok-true-clause-keeps
-returns-in-Ok-true-clause-keeps g c =
-    let a = g.A.Bank in
-    let b = g.B.Bank in
-    keeps_twice a b (λ told. (g.met.A.Bank.tells_both told.0, g.met.B.Bank.tells_both told.1)) c.args.self.now c.first_is_blank.new.self c.second_is_live.new.self c.first_is_blank.ensures.keeps c.second_is_live.ensures.keeps
-
 pub returns-in-Ok-true-clause-looks : goal.returns-in-Ok-true-clause-looks
 returns-in-Ok-true-clause-looks g c =
-    looks_twice g.A.Bank g.B.Bank c.args.self.now c.first_is_blank.new.self c.second_is_live.new.self c.second_is_live.result c.first_is_blank.ensures.keeps c.in-Ok-true.ensures.looks.done c.second_is_live.ensures.looks
+    looks_twice g.A.Bank g.B.Bank (λ told. (g.met.A.Bank.tells_both told.0, g.met.B.Bank.tells_both told.1)) c.args.self.now c.first_is_blank.new.self c.second_is_live.new.self c.second_is_live.result c.first_is_blank.ensures.looks.keeps c.in-Ok-true.ensures.looks.done c.second_is_live.ensures.looks
 
 pub returns-in-Ok-false-clause-is : goal.returns-in-Ok-false-clause-is
 returns-in-Ok-false-clause-is g c told =

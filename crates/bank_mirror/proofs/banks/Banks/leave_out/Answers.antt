@@ -1,49 +1,25 @@
-use Rattle.std.proofs.Common.{◌≡◌, inl, refl, sym, ◌∙◌, ap, subst, rules}
+use Rattle.std.proofs.Common.{◌≡◌, inl, true, refl, sym, ◌∙◌, subst, rules}
 use Rattle.tbl_outside.proofs.Moments.{leaves_among}
-use Rattle.bank_mirror.specs.Pairs.{AsWas, bytes_of}
+use Rattle.bank_mirror.specs.Pairs.{AsWas, bytes_of, shown_by}
+use Rattle.bank_mirror.specs.declared.in_use.InUse.TheVariants.{FirstOut, SecondOut}
 use Rattle.bank_mirror.specs.Kept.{HoldsOnly}
-use Rattle.bank_mirror.specs.BanksInUse.{in_use_alone, bytes_alone, OtherIsLeft}
+use Rattle.bank_mirror.specs.Openings.{OpensAlone}
 use Rattle.bank_mirror.proofs.Bytes.{pair-fresh, pair-stale}
 use Rattle.bank_mirror.proofs.Moments.{told_moments, none_called}
 use Rattle.bank_mirror.proofs.banks.Banks.leave_out.Goals as goal
 
-pub returns-in-First-clause-in_use : goal.returns-in-First-clause-in_use
-returns-in-First-clause-in_use g c = ap in_use_alone (sym c.in-First.is)
+pub returns-in-First-clause-opened : goal.returns-in-First-clause-opened
+returns-in-First-clause-opened g c =
+    let old = c.args.self.now in
+    subst (λ alone. OpensAlone g.A.Bank g.B.Bank alone (old.first, old.second) old SecondOut true) (sym c.in-First.is)
+    (record { out = refl; held = c.requires c.in-First.is; left = (refl, refl); mark = refl })
 
 pub returns-in-First-clause-bytes : goal.returns-in-First-clause-bytes
 returns-in-First-clause-bytes g c told =
     let a = g.A.Bank in
     let b = g.B.Bank in
-    let pair = c.args.self.now in
-    subst (λ alone. bytes_of a b pair ≡ bytes_alone alone (a.now pair.first) (b.now pair.second)) (sym c.in-First.is)
-    (pair-fresh (a.now pair.first) (b.now pair.second) (c.requires.fresh c.in-First.is told))
-
-pub returns-in-First-clause-left : goal.returns-in-First-clause-left
-returns-in-First-clause-left g c =
-    let pair = c.args.self.now in
-    subst (λ alone. OtherIsLeft alone pair.first pair.second pair) (sym c.in-First.is) (refl, refl)
-
-pub returns-in-Ok-clause-in_use : goal.returns-in-Ok-clause-in_use
-returns-in-Ok-clause-in_use g c = ap in_use_alone (sym c.in-Second.is)
-
-pub returns-in-Ok-clause-bytes : goal.returns-in-Ok-clause-bytes
-returns-in-Ok-clause-bytes g c told =
-    let a = g.A.Bank in
-    let b = g.B.Bank in
-    let pair = c.args.self.now in
-    let new = c.set_mark.new.self in
-    subst (λ alone. bytes_of a b new ≡ bytes_alone alone (a.now pair.first) (b.now pair.second)) (sym c.in-Second.is)
-    (pair-stale (a.now new.first) (b.now new.second) (c.in-Ok.ensures.marked told) ∙ c.set_mark.ensures.front told)
-
-pub returns-in-Ok-clause-left : goal.returns-in-Ok-clause-left
-returns-in-Ok-clause-left g c =
-    let pair = c.args.self.now in
-    subst (λ alone. OtherIsLeft alone pair.first pair.second c.set_mark.new.self) (sym c.in-Second.is) c.set_mark.ensures.other
-
-pub returns-in-Err-clause-left : goal.returns-in-Err-clause-left
-returns-in-Err-clause-left g c =
-    let pair = c.args.self.now in
-    subst (λ alone. OtherIsLeft alone pair.first pair.second c.set_mark.new.self) (sym c.in-Second.is) c.set_mark.ensures.other
+    let old = c.args.self.now in
+    subst (λ alone. bytes_of a b old ≡ shown_by a b alone old) (sym c.in-First.is) (pair-fresh (a.now old.first) (b.now old.second) (c.requires c.in-First.is told))
 
 pub returns-in-First-clause-holds : goal.returns-in-First-clause-holds
 returns-in-First-clause-holds g c =
@@ -56,18 +32,34 @@ returns-in-First-clause-holds g c =
       goes_on = search rules;
     }
 
+pub returns-in-Ok-clause-opened : goal.returns-in-Ok-clause-opened
+returns-in-Ok-clause-opened g c =
+    let old = c.args.self.now in
+    subst (λ alone. OpensAlone g.A.Bank g.B.Bank alone (old.first, old.second) c.set_mark.new.self FirstOut true) (sym c.in-Second.is)
+    (record { out = refl; held = c.in-Ok.ensures.sets.marked; left = c.set_mark.ensures.sets.other; mark = refl })
+
+pub returns-in-Ok-clause-bytes : goal.returns-in-Ok-clause-bytes
+returns-in-Ok-clause-bytes g c told =
+    let a = g.A.Bank in
+    let b = g.B.Bank in
+    let new = c.set_mark.new.self in
+    subst (λ alone. bytes_of a b new ≡ shown_by a b alone c.args.self.now) (sym c.in-Second.is)
+    (pair-stale (a.now new.first) (b.now new.second) (c.in-Ok.ensures.sets.marked told) ∙ c.set_mark.ensures.sets.front told)
+
 pub returns-in-Ok-clause-holds : goal.returns-in-Ok-clause-holds
 returns-in-Ok-clause-holds g c =
     let a = g.A.Bank in
     let b = g.B.Bank in
     let pair = c.args.self.now in
-    subst (λ alone. HoldsOnly a b pair c.set_mark.new.self (AsWas a b pair.first pair.second (bytes_alone alone (a.now pair.first) (b.now pair.second)))) (sym c.in-Second.is)
-    c.set_mark.ensures.holds
+    subst (λ alone. HoldsOnly a b pair c.set_mark.new.self (AsWas a b pair.first pair.second (shown_by a b alone pair))) (sym c.in-Second.is) c.set_mark.ensures.holds
+
+pub returns-in-Err-clause-failed : goal.returns-in-Err-clause-failed
+returns-in-Err-clause-failed g c =
+    record { second = λ is. absurd (cc (sym is ∙ c.in-Second.is)); left = c.set_mark.ensures.sets.other; counted = c.in-Err.ensures.sets.counted }
 
 pub returns-in-Err-clause-holds : goal.returns-in-Err-clause-holds
 returns-in-Err-clause-holds g c =
     let a = g.A.Bank in
     let b = g.B.Bank in
     let pair = c.args.self.now in
-    subst (λ alone. HoldsOnly a b pair c.set_mark.new.self (AsWas a b pair.first pair.second (bytes_alone alone (a.now pair.first) (b.now pair.second)))) (sym c.in-Second.is)
-    c.set_mark.ensures.holds
+    subst (λ alone. HoldsOnly a b pair c.set_mark.new.self (AsWas a b pair.first pair.second (shown_by a b alone pair))) (sym c.in-Second.is) c.set_mark.ensures.holds

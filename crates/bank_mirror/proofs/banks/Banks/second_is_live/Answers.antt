@@ -1,12 +1,21 @@
-use Rattle.bank_mirror.proofs.Opened.{second_keeps}
+use Rattle.std.proofs.Common.{rules}
+use Rattle.bank_mirror.proofs.Calling.{second_keeps}
 use Rattle.bank_mirror.proofs.banks.Banks.second_is_live.Goals as goal
 
-pub returns-in-Ok-clause-keeps : goal.returns-in-Ok-clause-keeps
-returns-in-Ok-clause-keeps g c =
-    let read = c.read_second.ensures in
-    second_keeps g.A.Bank g.B.Bank c.args.self.now c.read_second.new.self read.kept read.other read.moments read.goes_on
+pub returns-in-Ok-clause-looks : goal.returns-in-Ok-clause-looks
+returns-in-Ok-clause-looks g c =
+    record {
+      keeps = second_keeps g.A.Bank g.B.Bank c.args.self.now c.read_second.new.self c.read_second.ensures.reads.kept c.read_second.ensures.calls;
+      done = search rules;
+      failed = search rules;
+      last = search rules;
+    }
 
-pub returns-in-Err-clause-keeps : goal.returns-in-Err-clause-keeps
-returns-in-Err-clause-keeps g c =
-    let read = c.read_second.ensures in
-    second_keeps g.A.Bank g.B.Bank c.args.self.now c.read_second.new.self read.kept read.other read.moments read.goes_on
+pub returns-in-Err-clause-looks : goal.returns-in-Err-clause-looks
+returns-in-Err-clause-looks g c =
+    record {
+      keeps = second_keeps g.A.Bank g.B.Bank c.args.self.now c.read_second.new.self c.read_second.ensures.reads.kept c.read_second.ensures.calls;
+      done = search rules;
+      failed = search rules;
+      last = search rules;
+    }
