@@ -1,10 +1,12 @@
 -- What contracts see of a bank in memory, and what a reset may leave of it.
 use mathlib.Core.Logic.{inl, inr}
-use Rattle.std.specs.Prelude.{◌≡◌, ◌⊎◌, ℕ, Bool, ◌&&◌, nat_lt, nat_le, List, [], ◌∷◌, length, drop}
+use Rattle.std.specs.Prelude.{◌≡◌, ◌⊎◌, ℕ, ◌+◌, ◌-◌, ◌≤◌, Bool, false, ◌&&◌, nat_lt, nat_le, List, [], ◌∷◌, ◌++◌, length, drop}
+use Rattle.tbl_kinds.specs.Numbers.{patched}
 use Rattle.tbl_outside.specs.Bank.{Torn}
-use Rattle.tbl_fakes.specs.Notes.{Noting}
+use Rattle.tbl_outside.specs.BankCalls.{BankCall, write as to_write}
+use Rattle.tbl_fakes.specs.Notes.{Noting, noted}
 use Rattle.tbl_fakes.specs.Past.{Passed}
-use Rattle.tbl_fakes.specs.Troubles.{Trouble}
+use Rattle.tbl_fakes.specs.Troubles.{Trouble, next_break, front_of, one_write, one_end}
 
 -- its bytes, its writes so far, how many more its record has room for and with how many bytes, what it notes of its
 -- calls, and what goes wrong
@@ -27,9 +29,43 @@ stops_of bank = bank.trouble.stops
 abbrev pub has_room : Banking → ℕ → Bool
 has_room bank count = nat_lt 0 bank.writes_left && nat_le count bank.room
 
+-- a new bank of these bytes, whose record has room for so many writes with so many bytes in all, and for 4,096 reads
+abbrev pub unused : List ℕ → Trouble → ℕ → ℕ → Banking
+unused bytes trouble writes room = record {
+  bytes = bytes;
+  past = [];
+  writes_left = writes;
+  room = room;
+  notes = record { calls = []; left = writes + 4096; room = room; missed = false };
+  trouble = trouble;
+}
+
+-- it got this call, and this is what went wrong by then
+abbrev pub after_call : BankCall → Trouble → Banking → Banking
+after_call call trouble bank = record bank { notes = noted call bank.notes; trouble = trouble }
+
 -- a write over these bytes, of so many from a place on
 abbrev pub written_over : Banking → ℕ → ℕ → Passed
 written_over bank at count = record { before = bank.bytes; span = record { at = at; length = count } }
+
+-- a write for which it had room: a front of the piece stands as far as its number says, and it joins the record
+abbrev pub written_to : ℕ → List ℕ → Banking → Banking
+written_to at bytes bank = record {
+  bytes = patched bank.bytes at (front_of (next_break bank.trouble) bytes);
+  past = bank.past ++ written_over bank at (length bytes) ∷ [];
+  writes_left = bank.writes_left - 1;
+  room = bank.room - length bytes;
+  notes = noted (to_write at bytes) bank.notes;
+  trouble = one_end (next_break bank.trouble) (one_write bank.trouble);
+}
+
+-- what each call keeps: the size, counts that don't fall, and the calls as long as it tells them
+pub record Keeps (call : BankCall) (old new : Banking) : Type 0 where
+  pub size : length new.bytes ≡ length old.bytes
+  pub fault_count : old.trouble.faults ≤ new.trouble.faults
+  pub stop_count : old.trouble.stops ≤ new.trouble.stops
+  pub told : new.notes.missed ≡ false → old.notes.missed ≡ false
+  pub bank_calls : new.notes.missed ≡ false → new.notes.calls ≡ call ∷ old.notes.calls
 
 -- a reset inside one of these writes may have left this image
 abbrev pub IsFromInside : List Passed → List ℕ → Type 0

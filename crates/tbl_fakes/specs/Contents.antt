@@ -1,7 +1,9 @@
 -- What contracts see of a source and of a sink in memory.
-use Rattle.std.specs.Prelude.{ℕ, ◌-◌, ◌==◌, List, Bool, false, Option, Some, None, min}
+use Rattle.std.specs.Prelude.{ℕ, ◌-◌, ◌==◌, nat_lt, if◌then◌else◌, List, [], ◌++◌, length, take, drop, Bool, true, false, Option, Some, None, min}
+use Rattle.tbl_outside.specs.Streams.{after_read}
+use Rattle.tbl_outside.specs.declared.stream.HowFar.TheVariants.{Going}
 use Rattle.tbl_outside.specs.declared.stream.HowFar.{HowFar}
-use Rattle.tbl_fakes.specs.Calls.{Calls}
+use Rattle.tbl_fakes.specs.Calls.{Calls, none_made, passed, failed}
 
 -- the bytes that are still to come, the reads, how many bytes come before each read fails, if that is so, and how far it was read
 pub record Reading : Type 0 where
@@ -9,6 +11,10 @@ pub record Reading : Type 0 where
   pub calls : Calls
   pub cut : Option ℕ
   pub how_far : HowFar
+
+-- a source of these bytes, of which nothing was read yet
+abbrev pub unread : List ℕ → Calls → Option ℕ → Reading
+unread bytes calls cut = record { left = bytes; calls = calls; cut = cut; how_far = Going }
 
 -- each read fails from here on
 abbrev pub is_cut : Option ℕ → Bool
@@ -25,8 +31,32 @@ abbrev pub cut_after : Option ℕ → ℕ → Option ℕ
 cut_after None len = None
 cut_after (Some bytes) len = Some (bytes - len)
 
+-- so many bytes were moved, as far as the cut lets them
+abbrev pub moved : ℕ → Reading → Reading
+moved count reading = record reading { left = drop count reading.left; cut = cut_after reading.cut count }
+
+-- a read that gave so many bytes, and one that failed
+abbrev pub given : ℕ → Reading → Reading
+given count reading = record (moved count reading) { calls = passed reading.calls; how_far = after_read count reading.how_far }
+
+abbrev pub refused : Reading → Reading
+refused reading = record reading { calls = failed (passed reading.calls); how_far = after_read 0 reading.how_far }
+
 -- the bytes that were taken, the room that is left, and the writes
 pub record Writing : Type 0 where
   pub taken : List ℕ
   pub room : ℕ
   pub calls : Calls
+
+-- a sink that took nothing yet
+abbrev pub untaken : ℕ → List ℕ → Writing
+untaken room fails = record { taken = []; room = room; calls = none_made fails }
+
+-- as much of a piece is taken as there is room for
+abbrev pub filled : List ℕ → Writing → Writing
+filled bytes writing = record writing { taken = writing.taken ++ take writing.room bytes; room = writing.room - length bytes }
+
+-- a write that takes all, one that takes what there is room for, and one that is listed
+abbrev pub after_write : Bool → List ℕ → Writing → Writing
+after_write true bytes writing = record writing { calls = failed (passed writing.calls) }
+after_write false bytes writing = record (filled bytes writing) { calls = if nat_lt writing.room (length bytes) then failed (passed writing.calls) else passed writing.calls }

@@ -1,5 +1,5 @@
 -- What a bank in memory keeps of its writes, and the contents that it had.
-use Rattle.std.specs.Prelude.{◌≡◌, ℕ, Bool, ◌&&◌, nat_lt, nat_le, List, [], ◌∷◌, length, take, drop, sum_by}
+use Rattle.std.specs.Prelude.{◌≡◌, ℕ, ◌-◌, Bool, ◌&&◌, nat_lt, nat_le, List, [], ◌∷◌, ◌++◌, length, take, drop, sum_by}
 use Rattle.tbl_kinds.specs.Numbers.{patched}
 use Rattle.tbl_fakes.specs.declared.past.Span.{Span}
 
@@ -17,6 +17,15 @@ OldsKept spans olds = length olds ≡ sum_by (λ span. span.length) spans
 -- there is room for one more write, and for so many bytes
 abbrev pub fits : PastParts → ℕ → Bool
 fits kept count = nat_lt 0 kept.writes && nat_le count kept.room
+
+-- one write more is kept, with the bytes that were in its range
+abbrev pub with_write : ℕ → List ℕ → PastParts → PastParts
+with_write at old kept = record {
+  spans = kept.spans ++ record { at = at; length = length old } ∷ [];
+  olds = kept.olds ++ old;
+  writes = kept.writes - 1;
+  room = kept.room - length old;
+}
 
 -- a write: the bytes as they were before it, and its range
 pub record Passed : Type 0 where

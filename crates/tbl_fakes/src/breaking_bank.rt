@@ -3,8 +3,8 @@ ghost use Rattle.std.specs.Prelude.{◌≡◌, ◌+◌, ◌<◌, ◌≤◌, ◌^
 ghost use Rattle.tbl_kinds.specs.Numbers.{piece, patched};
 ghost use Rattle.tbl_outside.specs.Bank.{Torn};
 ghost use Rattle.tbl_outside.specs.Counts.{Counted};
-ghost use Rattle.tbl_fakes.specs.Breaking.{faults_of, stops_of, last_of};
-ghost use Rattle.tbl_fakes.specs.Troubles.{none_yet, next_break, front_of, how_ends, one_write, one_end};
+ghost use Rattle.tbl_fakes.specs.Breaking.{faults_of, stops_of, last_of, written_to};
+ghost use Rattle.tbl_fakes.specs.Troubles.{none_yet, next_break, how_ends};
 
 use crate::past::Span;
 use crate::troubles::{Break, Troubles, reach, write_over};
@@ -147,18 +147,13 @@ impl Bank for BreakingBank {
 
     fn write_at(&mut self, at: u32, bytes: &[u8]) -> Written
         requires { at + length bytes.now ≤ length self.old.bytes }
-        ensures done { result ≡ Written.Done → self.new.bytes ≡ patched self.old.bytes at bytes.now }
         ensures torn { Torn at (length bytes.now) self.old.bytes self.new.bytes }
-        ensures size { length self.new.bytes ≡ length self.old.bytes }
-        ensures counted { Counted faults_of stops_of self.old self.new result }
         ensures fault_count { self.old.trouble.faults ≤ self.new.trouble.faults }
         ensures stop_count { self.old.trouble.stops ≤ self.new.trouble.stops }
 
         // It ends as its number says, with a front of the piece of which the number says how long it is.
         ensures ends { result ≡ how_ends (next_break self.old.trouble) }
-        ensures front { self.new.bytes ≡ patched self.old.bytes at (front_of (next_break self.old.trouble) bytes.now) }
-        ensures trouble { self.new.trouble ≡ one_end (next_break self.old.trouble) (one_write self.old.trouble) }
-        ensures broken { self.new.broken ≡ last_of (next_break self.old.trouble) (record { at = at; length = length bytes.now }) self.old.broken }
+        ensures written { self.new ≡ written_to at bytes.now self.old }
     {
         let planned = self.troubles.next_write();
         let length = bytes.len() as u32;

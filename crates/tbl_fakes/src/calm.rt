@@ -52,7 +52,7 @@ impl Source for CalmSource {
         ensures front { into.new ≡ take (min (length into.old) (length self.old)) self.old ++ drop (length self.old) into.old }
         ensures left { self.new ≡ drop (length into.old) self.old }
     {
-        Ok(self.supply.fill(into))
+        Ok(self.supply.fill_up_to(into, into.len()))
     }
 }
 

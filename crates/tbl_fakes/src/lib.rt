@@ -5,6 +5,7 @@
 mod breaking_bank;
 mod calm;
 mod calm_bank;
+mod counting_gate;
 mod gates;
 mod mem_bank;
 mod mem_sink;
@@ -18,7 +19,8 @@ mod troubles;
 pub use breaking_bank::BreakingBank;
 pub use calm::{CalmSink, CalmSource};
 pub use calm_bank::CalmBank;
-pub use gates::{CountingGate, MeetingGate, OpenGate, OrderedGate, ReadingGate, Told};
+pub use counting_gate::{CountingGate, Told};
+pub use gates::{MeetingGate, OpenGate, OrderedGate, ReadingGate};
 pub use mem_bank::MemBank;
 pub use mem_sink::MemSink;
 pub use mem_source::MemSource;

@@ -1,14 +1,12 @@
 // A bank in memory.
-ghost use Rattle.std.specs.Prelude.{◌≡◌, ◌+◌, ◌-◌, ◌<◌, ◌≤◌, ◌^◌, [], ◌∷◌, ◌++◌, List, ℕ, ⊤, IsTrue, IfOk, OnOk, OnErr, false, is_err, length, map, take, drop, refl};
+ghost use Rattle.std.specs.Prelude.{◌≡◌, ◌+◌, ◌<◌, ◌≤◌, ◌^◌, List, ℕ, ⊤, IsTrue, IfOk, OnOk, OnErr, false, is_err, length, map, refl};
 ghost use Rattle.std.proofs.Common.{inl};
 ghost use Rattle.tbl_kinds.specs.Numbers.{piece, patched};
 ghost use Rattle.tbl_outside.specs.Bank.{Torn, LeavesOnly};
 ghost use Rattle.tbl_outside.specs.BankCalls.{read, write};
 ghost use Rattle.tbl_outside.specs.Counts.{Still, RoseAlone, Counted};
-ghost use Rattle.tbl_fakes.specs.Troubles.{none_yet, next_break, is_bad_read, front_of, how_ends};
-ghost use Rattle.tbl_fakes.specs.Troubles.{one_write, one_read, one_fault, one_end};
-ghost use Rattle.tbl_fakes.specs.Banks.{faults_of, stops_of, has_room, written_over, moment, MayHaveLeft, only_bytes};
-ghost use Rattle.tbl_fakes.specs.Notes.{noted};
+ghost use Rattle.tbl_fakes.specs.Troubles.{none_yet, next_break, is_bad_read, how_ends, one_write, one_read, one_fault};
+ghost use Rattle.tbl_fakes.specs.Banks.{faults_of, stops_of, has_room, unused, after_call, written_to, Keeps, moment, MayHaveLeft, only_bytes};
 
 use crate::notes::Notes;
 use crate::past::{Past, Span};
@@ -62,12 +60,7 @@ impl MemBank {
         room: u32,
     ) -> Result<MemBank, Memory>
         requires { length bytes.items < 2 ^ 32 }
-        ensures bytes { IfOk result (λ b. b.bytes ≡ bytes.items) }
-        ensures past { IfOk result (λ b. b.past ≡ []) }
-        ensures writes_left { IfOk result (λ b. b.writes_left ≡ writes) }
-        ensures room { IfOk result (λ b. b.room ≡ room) }
-        ensures notes { IfOk result (λ b. b.notes ≡ record { calls = []; left = writes + 4096; room = room; missed = false }) }
-        ensures trouble { IfOk result (λ b. b.trouble ≡ none_yet breaks.now bad_reads.now) }
+        ensures { IfOk result (λ b. b ≡ unused bytes.items (none_yet breaks.now bad_reads.now) writes room) }
     {
         Ok(MemBank {
             bytes,
@@ -157,28 +150,14 @@ impl Bank for MemBank {
     fn read_at(&mut self, at: u32, into: &mut [u8]) -> Result<(), Failed>
         requires { at + length into.old ≤ length self.old.bytes }
         ensures read { OnOk result (into.new ≡ piece at (length into.old) self.old.bytes) }
-        ensures kept { self.new.bytes ≡ self.old.bytes }
         ensures moments { LeavesOnly moment MayHaveLeft self.old self.new (λ image. image ≡ self.old.bytes) }
-        ensures size { length self.new.bytes ≡ length self.old.bytes }
-        ensures done { OnOk result (Still faults_of stops_of self.old self.new) }
-        ensures failed { OnErr result (RoseAlone faults_of stops_of self.old self.new) }
-        ensures fault_count { self.old.trouble.faults ≤ self.new.trouble.faults }
-        ensures stop_count { self.old.trouble.stops ≤ self.new.trouble.stops }
-        ensures told { self.new.notes.missed ≡ false → self.old.notes.missed ≡ false }
-        ensures bank_calls { self.new.notes.missed ≡ false →
-            self.new.notes.calls ≡ read at (length into.old) ∷ self.old.notes.calls }
+        ensures keeps { Keeps (read at (length into.old)) self.old self.new }
 
         // It fails exactly if its number is listed, and then moves nothing. It notes the call if it has room.
         ensures fails { is_err result ≡ is_bad_read self.old.trouble }
         ensures unmoved { OnErr result (into.new ≡ into.old) }
-        ensures ok { OnOk result (self.new ≡ record self.old {
-          notes = noted (read at (length into.old)) self.old.notes;
-          trouble = one_read self.old.trouble;
-        }) }
-        ensures err { OnErr result (self.new ≡ record self.old {
-          notes = noted (read at (length into.old)) self.old.notes;
-          trouble = one_fault (one_read self.old.trouble);
-        }) }
+        ensures ok { OnOk result (self.new ≡ after_call (read at (length into.old)) (one_read self.old.trouble) self.old) }
+        ensures err { OnErr result (self.new ≡ after_call (read at (length into.old)) (one_fault (one_read self.old.trouble)) self.old) }
     {
         self.notes.note_read(at, into.len() as u32);
         if self.troubles.next_read_fails() {
@@ -192,43 +171,20 @@ impl Bank for MemBank {
 
     fn write_at(&mut self, at: u32, bytes: &[u8]) -> Written
         requires { at + length bytes.now ≤ length self.old.bytes }
-        ensures done { result ≡ Written.Done → self.new.bytes ≡ patched self.old.bytes at bytes.now }
-        ensures torn { Torn at (length bytes.now) self.old.bytes self.new.bytes }
         ensures moments { LeavesOnly moment MayHaveLeft self.old self.new (Torn at (length bytes.now) self.old.bytes) }
-        ensures size { length self.new.bytes ≡ length self.old.bytes }
         ensures counted { Counted faults_of stops_of self.old self.new result }
-        ensures fault_count { self.old.trouble.faults ≤ self.new.trouble.faults }
-        ensures stop_count { self.old.trouble.stops ≤ self.new.trouble.stops }
-        ensures told { self.new.notes.missed ≡ false → self.old.notes.missed ≡ false }
-        ensures bank_calls { self.new.notes.missed ≡ false →
-            self.new.notes.calls ≡ write at bytes.now ∷ self.old.notes.calls }
+        ensures keeps { Keeps (write at bytes.now) self.old self.new }
 
-        // It notes the call if it has room.
-        ensures notes { self.new.notes ≡ noted (write at bytes.now) self.old.notes }
-
-        // With room for it, it ends as its number says, and joins the record: each image from inside it is shown.
+        // With room for it, it ends as its number says, and each image from inside it is shown.
         ensures ends { IsTrue (has_room self.old (length bytes.now)) → result ≡ how_ends (next_break self.old.trouble) }
-        ensures front { IsTrue (has_room self.old (length bytes.now)) →
-            self.new.bytes ≡ patched self.old.bytes at (front_of (next_break self.old.trouble) bytes.now) }
-        ensures past { IsTrue (has_room self.old (length bytes.now)) →
-            self.new.past ≡ self.old.past ++ written_over self.old at (length bytes.now) ∷ [] }
+        ensures written { IsTrue (has_room self.old (length bytes.now)) → self.new ≡ written_to at bytes.now self.old }
         ensures inside { IsTrue (has_room self.old (length bytes.now)) → (image : List ℕ) →
             Torn at (length bytes.now) self.old.bytes image → MayHaveLeft self.new (moment self.old) image }
-        ensures writes_left { IsTrue (has_room self.old (length bytes.now)) →
-            self.new.writes_left ≡ self.old.writes_left - 1 }
-        ensures room { IsTrue (has_room self.old (length bytes.now)) →
-            self.new.room ≡ self.old.room - length bytes.now }
-        ensures trouble { IsTrue (has_room self.old (length bytes.now)) →
-            self.new.trouble ≡ one_end (next_break self.old.trouble) (one_write self.old.trouble) }
 
         // Without room it fails and writes nothing.
-        ensures full { has_room self.old (length bytes.now) ≡ false →
-            result ≡ Written.Failed }
+        ensures full { has_room self.old (length bytes.now) ≡ false → result ≡ Written.Failed }
         ensures unwritten { has_room self.old (length bytes.now) ≡ false →
-            self.new ≡ record self.old {
-              notes = noted (write at bytes.now) self.old.notes;
-              trouble = one_fault (one_write self.old.trouble);
-            } }
+            self.new ≡ after_call (write at bytes.now) (one_fault (one_write self.old.trouble)) self.old }
     {
         self.notes.note_write(at, bytes);
         let planned = self.troubles.next_write();

@@ -1,10 +1,10 @@
 // A sink in memory.
-ghost use Rattle.std.specs.Prelude.{◌≡◌, ◌<◌, ◌≤◌, ◌-◌, ◌++◌, ◌||◌, nat_lt, nat_le, [], length, take, Some, true, false, IfOk, OnOk, OnErr, is_err};
+ghost use Rattle.std.specs.Prelude.{◌≡◌, ◌≤◌, ◌||◌, nat_lt, nat_le, [], length, Some, IfOk, OnOk, OnErr, is_err};
 ghost use Rattle.std.specs.Io.KnownBytes.{append_known};
 ghost use Rattle.tbl_outside.specs.Counts.{Rose};
 ghost use Rattle.tbl_outside.specs.Streams.{TakesFront};
-ghost use Rattle.tbl_fakes.specs.Calls.{is_listed, passed, failed, none_made};
-ghost use Rattle.tbl_fakes.specs.Contents.{Writing};
+ghost use Rattle.tbl_fakes.specs.Calls.{is_listed};
+ghost use Rattle.tbl_fakes.specs.Contents.{untaken, filled, after_write};
 
 use crate::plan::Plan;
 use std::alloc::Global;
@@ -34,9 +34,7 @@ impl Model for MemSink {
 impl MemSink {
     /// A sink with room for this many bytes, all of it reserved here. Writes are numbered from 1.
     pub fn make(alloc: Global, room: u32, fails: &[u32]) -> Result<MemSink, Memory>
-        ensures taken { IfOk result (λ s. s.taken ≡ []) }
-        ensures room { IfOk result (λ s. s.room ≡ room) }
-        ensures calls { IfOk result (λ s. s.calls ≡ none_made fails.now) }
+        ensures { IfOk result (λ s. s ≡ untaken room fails.now) }
     {
         let room = room as usize;
         Ok(MemSink {
@@ -48,9 +46,7 @@ impl MemSink {
 
     /// A sink that is cut: it takes this many bytes, and each write fails that has more. Their room is reserved here.
     pub fn cut(alloc: Global, after: u32) -> Result<MemSink, Memory>
-        ensures taken { IfOk result (λ s. s.taken ≡ []) }
-        ensures room { IfOk result (λ s. s.room ≡ after) }
-        ensures calls { IfOk result (λ s. s.calls ≡ none_made []) }
+        ensures { IfOk result (λ s. s ≡ untaken after []) }
     {
         MemSink::make(alloc, after, &[])
     }
@@ -72,9 +68,7 @@ impl MemSink {
     // Takes as much as there is room for, and says whether that was all.
     fn fill(&mut self, bytes: &[u8]) -> bool
         ensures whole { result ≡ nat_le (length bytes.now) self.old.room }
-        ensures taken { self.new.taken ≡ self.old.taken ++ take self.old.room bytes.now }
-        ensures room { self.new.room ≡ self.old.room - length bytes.now }
-        ensures calls { self.new.calls ≡ self.old.calls }
+        ensures filled { self.new ≡ filled bytes.now self.old }
     {
         let fitting = bytes.len().min(self.room);
         self.taken.append(&bytes[..fitting]);
@@ -89,20 +83,13 @@ impl Sink for MemSink {
     ghost faults = { λ s. s.calls.faults };
 
     fn write(&mut self, bytes: &[u8]) -> Result<(), Failed>
-        ensures whole { OnOk result (Some self.new.taken ≡ append_known (Some self.old.taken) bytes.now) }
-        ensures still { OnOk result (self.new.calls.faults ≡ self.old.calls.faults) }
         ensures front { OnErr result (TakesFront (Some self.old.taken) (Some self.new.taken) bytes.now) }
-        ensures cause { OnErr result (Rose self.old.calls.faults self.new.calls.faults) }
         ensures count { self.old.calls.faults ≤ self.new.calls.faults }
 
         // It fails exactly if its number is listed, and then takes nothing, or if the room is too small, and then takes what there is room
         // for.
         ensures fails { is_err result ≡ (is_listed self.old.calls || nat_lt self.old.room (length bytes.now)) }
-        ensures listed { is_listed self.old.calls ≡ true → self.new ≡ record self.old { calls = failed (passed self.old.calls) } }
-        ensures taken { is_listed self.old.calls ≡ false → self.new.taken ≡ self.old.taken ++ take self.old.room bytes.now }
-        ensures room { is_listed self.old.calls ≡ false → self.new.room ≡ self.old.room - length bytes.now }
-        ensures calls_ok { OnOk result (self.new.calls ≡ passed self.old.calls) }
-        ensures calls_err { OnErr result (self.new.calls ≡ failed (passed self.old.calls)) }
+        ensures new { self.new ≡ after_write (is_listed self.old.calls) bytes.now self.old }
     {
         if self.plan.fails_next() {
             self.plan.fault();

@@ -3,9 +3,8 @@ ghost use Rattle.std.specs.Prelude.{◌≡◌, ◌<◌, ◌≤◌, ◌++◌, ◌
 ghost use Rattle.std.specs.Io.KnownBytes.{prepend_known, IsAtEnd};
 ghost use Rattle.tbl_outside.specs.Counts.{Rose};
 ghost use Rattle.tbl_outside.specs.Streams.{after_read};
-ghost use Rattle.tbl_outside.specs.declared.stream.HowFar.TheVariants.{Going};
-ghost use Rattle.tbl_fakes.specs.Calls.{is_listed, passed, failed, none_made};
-ghost use Rattle.tbl_fakes.specs.Contents.{Reading, is_cut, before_cut, cut_after};
+ghost use Rattle.tbl_fakes.specs.Calls.{is_listed, none_made};
+ghost use Rattle.tbl_fakes.specs.Contents.{unread, is_cut, before_cut, moved, given, refused};
 
 use crate::plan::Plan;
 use crate::supply::Supply;
@@ -52,10 +51,7 @@ fn after_read(count: usize, before: HowFar) -> HowFar
 impl MemSource {
     /// A source of these bytes. Reads are numbered from 1.
     pub fn make(alloc: Global, bytes: Bytes, fails: &[u32]) -> Result<MemSource, Memory>
-        ensures left { IfOk result (λ s. s.left ≡ bytes.list) }
-        ensures calls { IfOk result (λ s. s.calls ≡ none_made fails.now) }
-        ensures whole { IfOk result (λ s. s.cut ≡ None) }
-        ensures unread { IfOk result (λ s. s.how_far ≡ Going) }
+        ensures { IfOk result (λ s. s ≡ unread bytes.list (none_made fails.now) None) }
     {
         Ok(MemSource {
             supply: Supply::of(bytes),
@@ -68,10 +64,7 @@ impl MemSource {
     /// A source of these bytes that is cut: each read fails once this many were taken, and none gives a byte after them. It
     /// takes no memory.
     pub fn cut(bytes: Bytes, after: u32) -> MemSource
-        ensures left { result.left ≡ bytes.list }
-        ensures calls { result.calls ≡ none_made [] }
-        ensures cut { result.cut ≡ Some after }
-        ensures unread { result.how_far ≡ Going }
+        ensures { result ≡ unread bytes.list (none_made []) (Some after) }
     {
         let plan = Plan::empty(bytes.allocator());
         MemSource {
@@ -117,13 +110,10 @@ impl MemSource {
     fn fill(&mut self, into: &mut [u8]) -> usize
         ensures count { result ≡ before_cut self.old.cut (min (length into.old) (length self.old.left)) }
         ensures moved { into.new ≡ take result self.old.left ++ drop result into.old }
-        ensures left { self.new.left ≡ drop result self.old.left }
-        ensures cut { self.new.cut ≡ cut_after self.old.cut result }
-        ensures calls { self.new.calls ≡ self.old.calls }
-        ensures far { self.new.how_far ≡ self.old.how_far }
+        ensures new { self.new ≡ moved result self.old }
     {
         match self.cut {
-            None => self.supply.fill(into),
+            None => self.supply.fill_up_to(into, into.len()),
             Some(bytes) => {
                 let count = self.supply.fill_up_to(into, bytes);
                 self.cut = Some(bytes - count);
@@ -141,25 +131,16 @@ impl Source for MemSource {
     ghost how_far = { λ s. s.how_far };
 
     fn read(&mut self, into: &mut [u8]) -> Result<usize, Failed>
-        ensures fits { IfOk result (λ n. n ≤ length into.old) }
-        ensures moved { IfOk result (λ n. Some self.old.left ≡ prepend_known (take n into.new) (Some self.new.left)) }
-        ensures end { IfOk result (λ n. n ≡ 0 → 0 < length into.old → IsAtEnd (Some self.new.left)) }
-        ensures still { OnOk result (self.new.calls.faults ≡ self.old.calls.faults) }
-        ensures kept { OnErr result (Some self.new.left ≡ Some self.old.left) }
-        ensures cause { OnErr result (Rose self.old.calls.faults self.new.calls.faults) }
         ensures count { self.old.calls.faults ≤ self.new.calls.faults }
-        ensures far_ok { IfOk result (λ n. self.new.how_far ≡ after_read n self.old.how_far) }
-        ensures far_err { OnErr result (self.new.how_far ≡ after_read 0 self.old.how_far) }
+        ensures moved { IfOk result (λ n. Some self.old.left ≡ prepend_known (take n into.new) (Some self.new.left)) }
 
         // It fails exactly if its number is listed or as many bytes were taken as come before the cut, and else moves as much as it can, up
         // to the cut.
         ensures fails { is_err result ≡ (is_listed self.old.calls || is_cut self.old.cut) }
         ensures most { IfOk result (λ n. n ≡ before_cut self.old.cut (min (length into.old) (length self.old.left))) }
-        ensures cut_ok { IfOk result (λ n. self.new.cut ≡ cut_after self.old.cut n) }
-        ensures cut_err { OnErr result (self.new.cut ≡ self.old.cut) }
         ensures rest { IfOk result (λ n. drop n into.new ≡ drop n into.old) }
-        ensures calls_ok { IfOk result (λ _. self.new.calls ≡ passed self.old.calls) }
-        ensures calls_err { OnErr result (self.new.calls ≡ failed (passed self.old.calls)) }
+        ensures ok { IfOk result (λ n. self.new ≡ given n self.old) }
+        ensures err { OnErr result (self.new ≡ refused self.old) }
     {
         let listed = self.plan.fails_next();
         if listed || self.is_cut() {

@@ -1,6 +1,6 @@
 // The writes that a bank in memory was asked for, with the bytes that were there before them.
-ghost use Rattle.std.specs.Prelude.{◌≡◌, ◌+◌, ◌<◌, ◌^◌, [], ◌∷◌, ◌++◌, ◌-◌, IfOk, IsTrue, length};
-ghost use Rattle.tbl_fakes.specs.Past.{fits};
+ghost use Rattle.std.specs.Prelude.{◌≡◌, ◌<◌, ◌^◌, [], IfOk, IsTrue, length};
+ghost use Rattle.tbl_fakes.specs.Past.{fits, with_write};
 
 use std::alloc::Global;
 use std::marker::Model;
@@ -62,10 +62,7 @@ impl Past {
     pub(crate) fn keep(&mut self, at: u32, old: &[u8])
         requires room { IsTrue (fits self.old (length old.now)) }
         requires size { length old.now < 2 ^ 32 }
-        ensures spans { self.new.spans ≡ self.old.spans ++ record { at = at; length = length old.now } ∷ [] }
-        ensures olds { self.new.olds ≡ self.old.olds ++ old.now }
-        ensures writes { self.new.writes ≡ self.old.writes - 1 }
-        ensures room { self.new.room ≡ self.old.room - length old.now }
+        ensures kept { self.new ≡ with_write at old.now self.old }
         ensures whole { OldsKept self.old.spans self.old.olds }
     {
         let length = old.len() as u32;

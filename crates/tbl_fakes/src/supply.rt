@@ -34,15 +34,6 @@ impl Supply {
         &self.bytes.bytes()[self.at..]
     }
 
-    /// Moves as many bytes as there are, or as the piece has, and answers how many.
-    pub(crate) fn fill(&mut self, into: &mut [u8]) -> usize
-        ensures count { result ≡ min (length into.old) (length self.old) }
-        ensures moved { into.new ≡ take result self.old ++ drop result into.old }
-        ensures left { self.new ≡ drop result self.old }
-    {
-        self.fill_up_to(into, into.len())
-    }
-
     /// Moves as many bytes as there are, or as the piece has, and no more than this many. It answers how many.
     pub(crate) fn fill_up_to(&mut self, into: &mut [u8], most: usize) -> usize
         ensures count { result ≡ min (min (length into.old) (length self.old)) most }
