@@ -1,7 +1,7 @@
 use Rattle.std.proofs.Common.{ap, subst}
 use Rattle.std.specs.Prelude.{is_some}
 use Rattle.turn_lock.specs.Turns.{Since, Knows}
-use Rattle.turn_lock.proofs.Steps.{closes, same_value, some_value}
+use Rattle.turn_lock.proofs.CallSteps.{closes, same_value, some_value}
 use Rattle.turn_lock.proofs.lock.TurnLock.close.Goals as goal
 
 pub unwrap-value-requires : goal.unwrap-value-requires

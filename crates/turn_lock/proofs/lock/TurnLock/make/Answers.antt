@@ -1,5 +1,5 @@
 use Rattle.std.proofs.Common.{Some, [], ◌∷◌, ◌++◌, ap, refl, ◌∙◌}
-use Rattle.turn_lock.proofs.Steps.{begins}
+use Rattle.turn_lock.proofs.CallSteps.{begins}
 use Rattle.turn_lock.proofs.lock.TurnLock.make.Goals as goal
 
 pub new-requires : goal.new-requires

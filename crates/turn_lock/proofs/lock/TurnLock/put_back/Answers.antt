@@ -1,6 +1,6 @@
 use Rattle.std.proofs.Common.{Some, ◌∷◌, ap, ◌∙◌, arith}
 use Rattle.atomic_table.specs.Table.{rest}
-use Rattle.turn_lock.proofs.Steps.{gives_at}
+use Rattle.turn_lock.proofs.CallSteps.{gives_at}
 use Rattle.turn_lock.proofs.lock.TurnLock.put_back.Goals as goal
 
 pub store-requires : goal.store-requires

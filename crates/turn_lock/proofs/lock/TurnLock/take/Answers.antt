@@ -2,7 +2,7 @@ use Rattle.std.proofs.Common.{Some, ◌∷◌, ap, sym, ◌∙◌, arith}
 use Rattle.std.specs.Prelude.{is_some}
 use Rattle.atomic_table.specs.Table.{rest}
 use Rattle.turn_lock.proofs.Lists.{came_out}
-use Rattle.turn_lock.proofs.Steps.{takes_at, took}
+use Rattle.turn_lock.proofs.CallSteps.{takes_at, took}
 use Rattle.turn_lock.proofs.lock.TurnLock.take.Goals as goal
 
 pub compare_exchange-requires : goal.compare_exchange-requires
