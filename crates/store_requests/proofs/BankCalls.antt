@@ -55,9 +55,9 @@ abbrev pub read_outcome : Result Unit RestoreFault → Outcome
 read_outcome (Ok x) = Done
 read_outcome (Err fault) = words_outcome (words fault)
 
-pub ungiven_outcome : (done : Effect) (w : Option ℕ) (bytes : List ℕ) → IsUngiven done w bytes untouched → done.note.outcome ≡ words_outcome w
-ungiven_outcome done (Some told) bytes is = ap (λ (n : BankNote). n.outcome) is.note_is
-ungiven_outcome done None bytes is = ap (λ (n : BankNote). n.outcome) is.note_is
+pub ungiven_outcome : (done : Effect) (w : Option ℕ) → IsUngiven done w → done.note.outcome ≡ words_outcome w
+ungiven_outcome done (Some told) is = ap (λ (n : BankNote). n.outcome) is.note_is
+ungiven_outcome done None is = ap (λ (n : BankNote). n.outcome) is.note_is
 
 pub bank_calls_restore : {B : Type 0} (g : Ghosts B) (old new : B) (slots : List (Option Slot)) (slot size : ℕ) (note : BankNote) (ended : Result Unit RestoreFault) → IsOpenOf size (slot_at slots slot)
     → ForSome (slot_at slots slot) (λ s. Asks g.tells_calls g.calls old new (was_read ended) (restore_calls (g.now old) slot s.block)) → note.outcome ≡ read_outcome ended → AsksBy g old new note.outcome (restore_at (g.now old) slots slot)

@@ -1,50 +1,36 @@
 -- Requests that call the store: from how each call ended to what the model says of the request.
 use Rattle.std.proofs.Common.{◌≡◌, ◌≢◌, ℕ, ◌+◌, List, [], ◌∷◌, length, take, Bool, true, false, Option, Some, None, Result, Ok, Err, refl, sym, ◌∙◌, ap, subst}
-use Rattle.std.specs.Prelude.{OnOk, IfErr, slice_get, slice_index_or, ◌==◌, map, if◌then◌else◌, option_and_then}
-use Rattle.std.specs.Option.{ForSome, option_map}
-use Rattle.std.proofs.lemmas.Option.{same_Some}
+use Rattle.std.specs.Prelude.{OnOk, IfErr, slice_get, ◌==◌, if◌then◌else◌}
 use Rattle.std.proofs.lemmas.Bool.{eq-eqb}
 use Rattle.std.proofs.lemmas.Result.{IfErr-weaker}
-use Rattle.tbl_kinds.specs.Blocks.{Stored, Store as Blocks}
-use Rattle.tbl_kinds.specs.StoreCalls.{StoreCall, copy, restore, delete, after, after_first, broken, CanBreak}
-use Rattle.tbl_kinds.specs.StoreSteps.{stored_at, Shows, MayShow, MayGive}
-use Rattle.tbl_kinds.specs.Buffers.{Buffer}
-use Rattle.tbl_kinds.specs.Notes.{untouched, restored_image}
+use Rattle.tbl_kinds.specs.Blocks.{Store as Blocks}
+use Rattle.tbl_kinds.specs.StoreCalls.{StoreCall, reserve, copy, restore, delete, after, after_first, broken, CanBreak}
+use Rattle.tbl_kinds.specs.Notes.{untouched}
 use Rattle.tbl_kinds.specs.declared.note.BankNote.{BankNote}
 use Rattle.tbl_kinds.specs.declared.note.Outcome.TheVariants.{Done, Stopped}
 use Rattle.tbl_kinds.specs.declared.request.ResetKind.TheVariants.{Processor}
 use Rattle.tbl_kinds.specs.declared.status.Status.{Status}
-use Rattle.tbl_kinds.specs.declared.status.TheConstants.Status.{SUCCESS, INFO_STOPPED, ERR_CDS_FAULT, ERR_IMAGE_SIZE, ERR_CDS_TORN}
+use Rattle.tbl_kinds.specs.declared.status.TheConstants.Status.{SUCCESS, INFO_STOPPED, ERR_CDS_FAULT, ERR_IMAGE_SIZE}
 use Rattle.tbl_model.specs.State.{State}
 use Rattle.tbl_model.specs.Effects as model
 use Rattle.tbl_model.specs.Effects.{answered}
 use Rattle.tbl_model.specs.Boots.{boot}
 use Rattle.tbl_model.specs.StoreUse.{left_by, then_broken, then_call}
-use Rattle.tbl_model.specs.StoreNotes.{NoGate, is_restore, MayGo, MayGoOn, Tells}
-use Rattle.tbl_model.specs.AppBlocks.{faulted, restore_answer}
+use Rattle.tbl_model.specs.StoreNotes.{NoGate, is_restore, MayGoOn, Tells}
+use Rattle.tbl_model.specs.AppBlocks.{faulted}
 use Rattle.cds_store.specs.Calls.{HasFlags, is_gate, is_old}
-use Rattle.cds_store.specs.StoreBlocks.{StoreParts, StandsFor, AreHeld, slot_of, held_at, after_words, after_fault}
-use Rattle.cds_layout.specs.Restores.{TellsTorn, words}
-use Rattle.cds_layout.specs.declared.blocks.RestoreFault.{RestoreFault}
-use Rattle.cds_layout.proofs.Restored.{unheld}
-use Rattle.cds_layout.proofs.Stored.{stored_there}
-use Rattle.cds_store.specs.Sound.{slot_at}
-use Rattle.cds_store.specs.declared.slot.Slot.{Slot}
-use Rattle.cds_store.proofs.Showing.{slot_is}
-use Rattle.cds_layout.specs.Directory.{directory_of}
-use Rattle.cds_layout.specs.Images.{held_in, stored_in, store_of}
-use Rattle.tbl_kinds.specs.declared.block.Block.{Block}
+use Rattle.cds_store.specs.StoreBlocks.{StoreParts, StandsFor}
 use Rattle.cds_store.specs.declared.fault.BankFault.{BankFault}
 use Rattle.cds_store.specs.declared.fault.BankFault.TheVariants.{Fault, Stopped as Cut}
 use Rattle.request_effects.specs.Effects.{IsEffect, reported_effect}
 use Rattle.request_effects.specs.Reports.{Reported, nothing_reported}
 use Rattle.tbl_session.specs.Crashes.{DuringCalls, writes}
-use Rattle.tbl_session.specs.Restores.{GaveHeld}
+use Rattle.tbl_session.specs.Restores.{RestoresHeld}
 use Rattle.tbl_outside.specs.Bank.{LeavesOnly}
 use Rattle.cds_store.specs.Moments.{LeavesIn}
 use Rattle.store_requests.proofs.Moments.{one_leaves}
 use Rattle.store_requests.specs.BankCalls.{AsksIn}
-use Rattle.store_requests.specs.Called.{Leaving, with_boot, broken_note, broken_status, done_note, call_note, call_status, IsSilent, IsTold, IsUngiven, unasked, IsCalled, Calls}
+use Rattle.store_requests.specs.Called.{Leaving, with_boot, broken_note, broken_status, done_note, call_note, call_status, IsSilent, IsTold, unasked, IsCalled, Calls}
 use Rattle.tbl_model.specs.declared.telemetry.Named.{Named}
 use Rattle.request_effects.specs.Effects.{Effect}
 use Rattle.tbl_outside.specs.declared.bank.Bank.{Ghosts}
@@ -71,9 +57,6 @@ pub told_with : {done : Effect} {status : Status} {detail : ℕ} {bytes other : 
 told_with {done} {status} {detail} {bytes} {other} {note} {is} same same_note told =
     subst (λ b. IsTold done status detail b is) same (subst (IsTold done status detail bytes) same_note told)
 
-pub ungiven_told : (done : Effect) (w : Option ℕ) {bytes : List ℕ} {note : BankNote} → bytes ≡ [] → note ≡ untouched → IsUngiven done w bytes note → IsUngiven done w [] untouched
-ungiven_told done w {bytes} {note} empty fresh told = subst (λ (b : List ℕ). IsUngiven done w b untouched) empty (subst (IsUngiven done w bytes) fresh told)
-
 -- it is enough to know it of the note that is given
 pub by_note : {B : Type 0} (g : Ghosts B) (first kept : StoreParts B) (s : State) (done : Effect) (means : BankNote → model.Effect) (note : BankNote) → done.note ≡ note
     → ((ended stopped : Bool) (found : List ℕ) → IsCalled g first kept (unasked s) done (with_boot ended stopped found note) (means (with_boot ended stopped found note)))
@@ -85,6 +68,14 @@ by_note g first kept s done means note is all =
 pub flags_break : (gate old : Bool) (fault : BankFault) (call : StoreCall) (store : Blocks) → CanBreak gate old call store → HasFlags gate old fault → CanBreak (is_gate fault) (is_old fault) call store
 flags_break gate old fault call store can flags =
     subst (λ g. CanBreak g (is_old fault) call store) (sym flags.gate_is) (subst (λ o. CanBreak gate o call store) (sym flags.old_is) can)
+
+-- what broke off gave nothing
+pub broke_held : (bytes : List ℕ) (calls : List StoreCall) (blocks : Blocks) (n : BankNote) → n.outcome ≢ Done → RestoresHeld bytes calls blocks n
+broke_held bytes [] blocks n goes = tt
+broke_held bytes (restore slot image ∷ calls) blocks n goes = λ is. absurd (goes is)
+broke_held bytes (copy slot image ∷ calls) blocks n goes = tt
+broke_held bytes (delete slot ∷ calls) blocks n goes = tt
+broke_held bytes (reserve kind name size ∷ calls) blocks n goes = tt
 
 -- a note that has no restore
 abbrev pub Plain : BankNote → Type 0
@@ -102,6 +93,7 @@ module _ {B : Type 0} (g : Ghosts B) (first kept : StoreParts B) (s : State) (do
     writing = λ stop. refl;
     moments = moments;
     asked = asked;
+    held = tt;
   })
 
   module _ (calls : List StoreCall) (status : Status) (detail : ℕ) (bytes : List ℕ) (note : BankNote) where
@@ -109,9 +101,10 @@ module _ {B : Type 0} (g : Ghosts B) (first kept : StoreParts B) (s : State) (do
     pub calls_done : Leaving g first kept (DuringCalls (writes calls) s.store) → AsksIn g first kept done.note.outcome calls → IsTold done status detail bytes (done_note note) → StandsFor g.tells g.now kept (left_by calls (done_note note) s.store)
         → calls ≢ [] → note.done + 1 ≡ length calls → NoGate note
         → MayGoOn (take (note.done + 1) calls) s.store → ((n : BankNote) → n.restored ≡ note.restored → n.torn ≡ note.torn → Tells (take (note.done + 1) calls) n)
+        → ((n : BankNote) → n.restored ≡ note.restored → n.torn ≡ note.torn → RestoresHeld (g.now first.bank) calls s.store n)
         → (ended stopped : Bool) (found : List ℕ)
         → IsCalled g first kept (unasked s) done (with_boot ended stopped found (done_note note)) (then_call calls (with_boot ended stopped found (done_note note)) faulted (record (answered s status detail) { bytes = bytes }))
-    calls_done moments asked told stands some many no_gate gave says ended stopped found = record {
+    calls_done moments asked told stands some many no_gate gave says held ended stopped found = record {
       blocks = stands;
       effect = told_so s (record s { store = left_by calls (done_note note) s.store }) done status detail bytes (done_note note) told;
       ends = (some, many, no_gate);
@@ -120,6 +113,7 @@ module _ {B : Type 0} (g : Ghosts B) (first kept : StoreParts B) (s : State) (do
       writing = λ stop. absurd (cc stop);
       moments = moments;
       asked = asked;
+      held = held (with_boot ended stopped found (done_note note)) refl refl;
     }
 
     -- the next one broke off
@@ -140,6 +134,7 @@ module _ {B : Type 0} (g : Ghosts B) (first kept : StoreParts B) (s : State) (do
           writing = λ stop. absurd (cc stop);
           moments = moments;
           asked = asked;
+          held = broke_held (g.now first.bank) calls s.store (with_boot ended stopped found n) (λ is. cc is);
         }
     calls_broke moments asked call next (Cut gate old) told stands can stops gave says ended stopped found =
         let n = broken_note (Cut gate old) note in
@@ -152,6 +147,7 @@ module _ {B : Type 0} (g : Ghosts B) (first kept : StoreParts B) (s : State) (do
           writing = λ stop. (stops refl).1;
           moments = moments;
           asked = asked;
+          held = broke_held (g.now first.bank) calls s.store (with_boot ended stopped found n) (λ is. cc is);
         }
 
   -- the first call broke off, which writes
@@ -167,17 +163,17 @@ module _ {B : Type 0} (g : Ghosts B) (first kept : StoreParts B) (s : State) (do
 
   -- a single call that writes
   pub one_call : (call : StoreCall) → Leaving g first kept (DuringCalls (writes (call ∷ [])) s.store) → AsksIn g first kept done.note.outcome (call ∷ []) → (writes (call ∷ []) ≡ call ∷ []) → (ended : Result Unit BankFault) (before : StoreParts B)
-      → is_restore call ≡ false → ((store : Blocks) → MayGoOn (call ∷ []) store) → ((n : BankNote) → Plain n → Tells (call ∷ []) n)
+      → is_restore call ≡ false → ((store : Blocks) → MayGoOn (call ∷ []) store) → ((n : BankNote) → Plain n → Tells (call ∷ []) n) → ((n : BankNote) → RestoresHeld (g.now first.bank) (call ∷ []) s.store n)
       → IfErr ended (λ fault. CanBreak (is_gate fault) (is_old fault) call s.store)
       → StandsFor g.tells g.now before s.store
       → OnOk ended ((blocks : Blocks) → StandsFor g.tells g.now before blocks → StandsFor g.tells g.now kept (after call blocks))
       → IfErr ended (λ fault. (blocks : Blocks) → StandsFor g.tells g.now before blocks → StandsFor g.tells g.now kept (broken (is_gate fault) (is_old fault) call blocks))
       → IsTold done (call_status ended) 0 [] (call_note ended untouched)
       → Calls g first kept s done (λ n. then_call (call ∷ []) n faulted (answered s SUCCESS 0))
-  one_call call moments asked all (Ok x) before plain gave says can stands ok err told =
+  one_call call moments asked all (Ok x) before plain gave says held can stands ok err told =
       by_note g first kept s done (λ n. then_call (call ∷ []) n faulted (answered s SUCCESS 0)) (done_note untouched) told.note_is
-      (calls_done (call ∷ []) SUCCESS 0 [] untouched moments asked told (ok s.store stands) (λ is. cc is) refl (refl, refl) (gave s.store) (λ n restored torn. says n (restored, torn)))
-  one_call call moments asked all (Err fault) before plain gave says can stands ok err told =
+      (calls_done (call ∷ []) SUCCESS 0 [] untouched moments asked told (ok s.store stands) (λ is. cc is) refl (refl, refl) (gave s.store) (λ n restored torn. says n (restored, torn)) (λ n restored torn. held n))
+  one_call call moments asked all (Err fault) before plain gave says held can stands ok err told =
       by_note g first kept s done (λ n. then_call (call ∷ []) n faulted (answered s SUCCESS 0)) (broken_note fault untouched) told.note_is
       (first_broke call [] moments asked all SUCCESS 0 fault before plain can stands err told)
 
@@ -211,6 +207,7 @@ module _ {B : Type 0} (g : Ghosts B) (first kept : StoreParts B) (s : State) (do
         writing = is.writing;
         moments = is.moments;
         asked = is.asked;
+        held = is.held;
       }
 
 -- what is reported besides an answer that is silent by itself
@@ -233,95 +230,10 @@ module _ {B : Type 0} (g : Ghosts B) (first before kept : StoreParts B) (s : Sta
   copy_called image size left asked fits can ok err =
       calls_same g first kept s done (λ n. then_call (copy slot image ∷ []) n faulted (answered s SUCCESS 0)) (λ n. if length image == size then then_call (copy slot image ∷ []) n faulted (answered s SUCCESS 0) else answered s ERR_IMAGE_SIZE 0)
       (λ n. ap (λ b. if b then then_call (copy slot image ∷ []) n faulted (answered s SUCCESS 0) else answered s ERR_IMAGE_SIZE 0) (eq-eqb (length image) size fits))
-      (one_call g first kept s done (copy slot image) (one_leaves g first kept (copy slot image) [] s.store left) asked refl ended before refl (λ store. (tt, tt)) (λ n plain. plain) (IfErr-weaker ended _ _ (λ fault all. all s.store) can) stands ok err told)
+      (one_call g first kept s done (copy slot image) (one_leaves g first kept (copy slot image) [] s.store left) asked refl ended before refl (λ store. (tt, tt)) (λ n plain. plain) (λ n. tt) (IfErr-weaker ended _ _ (λ fault all. all s.store) can) stands ok err told)
 
   pub delete_called : (g.tells_moments → LeavesOnly g.clock g.left_since first.bank kept.bank (LeavesIn (delete slot) s.store)) → AsksIn g first kept done.note.outcome (delete slot ∷ []) → IfErr ended (HasFlags true false)
       → OnOk ended ((blocks : Blocks) → StandsFor g.tells g.now before blocks → StandsFor g.tells g.now kept (after (delete slot) blocks))
       → IfErr ended (λ fault. (blocks : Blocks) → StandsFor g.tells g.now before blocks → StandsFor g.tells g.now kept (broken (is_gate fault) (is_old fault) (delete slot) blocks))
       → Calls g first kept s done (λ n. then_call (delete slot ∷ []) n faulted (answered s SUCCESS 0))
-  delete_called left asked flags ok err = one_call g first kept s done (delete slot) (one_leaves g first kept (delete slot) [] s.store left) asked refl ended before refl (λ store. (tt, tt)) (λ n plain. plain) (IfErr-weaker ended (HasFlags true false) _ (λ fault has. flags_break true false fault (delete slot) s.store (refl, refl) has) flags) stands ok err told
-
--- ---- a restore
-
--- what the bank shows of a block is what is in it
-held_is : (bytes : List ℕ) (n : ℕ) (o : Option Block) (left : Stored) → option_map (stored_in bytes n) o ≡ Some left → left.held ≡ held_in bytes n left.block
-held_is bytes n None left is = absurd (cc is)
-held_is bytes n (Some b) left is = subst (λ (x : Stored). x.held ≡ held_in bytes n x.block) (same_Some (stored_in bytes n b) left is) refl
-
--- an image that came back is what the block of the slot held
-pub held_image : (bytes : List ℕ) (blocks : Blocks) (slot : ℕ) (image : List ℕ) → Shows blocks (store_of bytes) → held_at slot (store_of bytes) ≡ Some image → ForSome (stored_at blocks slot) (λ b. held_in bytes slot b.block ≡ Some image)
-held_image bytes blocks slot image shows held b there = by (stored_at (store_of bytes) slot) refl held (subst (λ o. MayShow o (stored_at (store_of bytes) slot)) there (shows.each slot)) where
-  by : (o : Option Stored) → stored_at (store_of bytes) slot ≡ o → option_and_then (λ (b : Stored). b.held) (stored_at (store_of bytes) slot) ≡ Some image → MayShow (Some b) (stored_at (store_of bytes) slot) → held_in bytes slot b.block ≡ Some image
-  by None is held shown = absurd (cc (ap (option_and_then (λ (b : Stored). b.held)) is, held))
-  by (Some left) is held shown =
-      let same : left.block ≡ b.block = ap (λ (x : Stored). x.block) (subst (MayShow (Some b)) is shown).0 in
-      let whole : left.held ≡ Some image = sym (ap (option_and_then (λ (b : Stored). b.held)) is) ∙ held in
-      sym (ap (held_in bytes slot) same) ∙ sym (held_is bytes slot (slice_index_or (directory_of bytes) slot None) left (sym (stored_there bytes slot) ∙ is)) ∙ whole
-
--- the block of a slot that represents blocks
-pub block_there : (slots : List (Option Slot)) (blocks : Blocks) (slot : ℕ) (b : Stored) → slots ≡ map (option_map slot_of) blocks → stored_at blocks slot ≡ Some b → slot_at slots slot ≡ Some (slot_of b)
-block_there slots blocks slot b same there = slot_is [] slots blocks same slot ∙ ap (option_map slot_of) there
-
--- what the bank shows of the block in a slot is what a restore of it may give
-module _ (bytes : List ℕ) (blocks : Blocks) (slot : ℕ) where
-  pub gives_image : (image : List ℕ) → Shows blocks (store_of bytes) → held_at slot (store_of bytes) ≡ Some image → ForSome (stored_at blocks slot) (λ b. MayGive b (Some image))
-  gives_image image shows held b there = by (stored_at (store_of bytes) slot) refl held (subst (λ o. MayShow o (stored_at (store_of bytes) slot)) there (shows.each slot)) where
-    by : (o : Option Stored) → stored_at (store_of bytes) slot ≡ o → option_and_then (λ (b : Stored). b.held) (stored_at (store_of bytes) slot) ≡ Some image → MayShow (Some b) (stored_at (store_of bytes) slot) → MayGive b (Some image)
-    by None is held shown = absurd (cc (ap (option_and_then (λ (b : Stored). b.held)) is, held))
-    by (Some left) is held shown = subst (MayGive b) (sym (ap (option_and_then (λ (b : Stored). b.held)) is) ∙ held) (subst (MayShow (Some b)) is shown).1
-
-  pub gives_none : (slots : List (Option Slot)) → slots ≡ map (option_map slot_of) blocks → AreHeld bytes blocks
-      → ForSome (slot_at slots slot) (λ t. held_in bytes slot t.block ≡ None) → ForSome (stored_at blocks slot) (λ b. MayGive b None)
-  gives_none slots same held none b there =
-      let at : slot_at slots slot ≡ Some (slot_of b) = slot_is [] slots blocks same slot ∙ ap (option_map slot_of) there in
-      subst (MayGive b) (none (slot_of b) at) (held slot b there)
-
-module _ {B : Type 0} (g : Ghosts B) (first before kept : StoreParts B) (s : State) (done : Effect) (slot : ℕ) (stands : StandsFor g.tells g.now before s.store) (moments : Leaving g first kept (DuringCalls [] s.store)) (asked : AsksIn g first kept done.note.outcome (restore slot None ∷ [])) where
-  abbrev Restores : Type 0
-  Restores = Calls g first kept s done (λ n. then_call (restore slot (restored_image n) ∷ []) n faulted (restore_answer s n.torn (restored_image n)))
-
-  abbrev means : BankNote → model.Effect
-  means n = then_call (restore slot (restored_image n) ∷ []) n faulted (restore_answer s n.torn (restored_image n))
-
-  pub given_called : (image : List ℕ) (kept_bytes : Option Buffer) → option_map (λ (b : Buffer). b.list) kept_bytes ≡ Some image
-      → ForSome (stored_at s.store slot) (λ b. MayGive b (Some image)) → ForSome (stored_at s.store slot) (λ b. length image ≡ b.block.size)
-      → StandsFor g.tells g.now kept (after (restore slot (Some image)) s.store)
-      → IsTold done SUCCESS 0 image (record (done_note untouched) { restored = kept_bytes })
-      → Restores
-  given_called image None is gives sized left told = absurd (cc is)
-  given_called image (Some b) is gives sized left told =
-      let same : b.list ≡ image = same_Some b.list image is in
-      by_note g first kept s done means (record (done_note untouched) { restored = Some b }) told.note_is
-      (calls_done g first kept s done (restore slot (Some b.list) ∷ []) SUCCESS 0 b.list (record untouched { restored = Some b }) moments asked (told_with (sym same) refl told)
-      (subst (λ i. StandsFor g.tells g.now kept (after (restore slot (Some i)) s.store)) (sym same) left) (λ is. cc is) refl (refl, refl)
-      (subst (λ (i : List ℕ). MayGo (restore slot (Some i)) s.store) (sym same) (λ b there. (gives b there, sized b there)), tt)
-      (λ n restored torn. (ap (option_map (λ (b : Buffer). b.list)) restored, λ given. torn)))
-
-  pub ungiven_called : g.tells → (broke : RestoreFault)
-      → (g.tells → ForSome (slot_at before.slots slot) (λ t. TellsTorn (g.now before.bank) slot t.block broke))
-      → ((blocks : Blocks) → StandsFor g.tells g.now before blocks → StandsFor g.tells g.now kept (after_fault broke slot blocks))
-      → IsUngiven done (words broke) [] untouched
-      → Restores
-  ungiven_called told broke none left answer = by (words broke) refl (left s.store stands) answer where
-    by : (w : Option ℕ) → words broke ≡ w → StandsFor g.tells g.now kept (after_words w slot s.store) → IsUngiven done w [] untouched → Restores
-    by (Some told_words) is there answer =
-        let gives = gives_none (g.now before.bank) s.store slot before.slots stands.slots (stands.holds told) (λ t at. (unheld (g.now before.bank) slot t.block broke told_words is (none told t at)).no_image) in
-        by_note g first kept s done means (record (done_note untouched) { torn = told_words }) answer.note_is
-        (calls_done g first kept s done (restore slot None ∷ []) ERR_CDS_TORN told_words [] (record untouched { torn = told_words }) moments asked answer there (λ is. cc is) refl (refl, refl) ((λ b there. (gives b there, tt)), tt)
-        (λ n restored torn. (ap (option_map (λ (b : Buffer). b.list)) restored, λ given. absurd (cc given))))
-    by None is there answer =
-        by_note g first kept s done means (broken_note (Fault false false) untouched) answer.note_is
-        (calls_broke g first kept s done (restore slot None ∷ []) ERR_CDS_TORN 0 [] untouched moments asked (restore slot None) refl (Fault false false) answer there (refl, refl) (λ is. absurd (cc is)) tt (λ n restored torn. (restored, torn)))
-
--- what it gave is what the block held
-pub ungiven_gave : {B : Type 0} (g : Ghosts B) (before : StoreParts B) (done : Effect) (slot : ℕ) (blocks : Blocks) (broke : RestoreFault) → g.tells → StandsFor g.tells g.now before blocks
-    → (g.tells → ForSome (slot_at before.slots slot) (λ t. TellsTorn (g.now before.bank) slot t.block broke))
-    → IsUngiven done (words broke) [] untouched → done.note.outcome ≡ Done → ForSome (stored_at blocks slot) (λ b. GaveHeld (g.now before.bank) slot b.block done.note)
-ungiven_gave g before done slot blocks broke told stands none answer went b there = by (words broke) refl answer where
-  by : (w : Option ℕ) → words broke ≡ w → IsUngiven done w [] untouched → GaveHeld (g.now before.bank) slot b.block done.note
-  by (Some told_words) is answer =
-      let torn = unheld (g.now before.bank) slot b.block broke told_words is (none told (slot_of b) (block_there before.slots blocks slot b stands.slots there)) in record {
-        image = ap (λ (n : BankNote). restored_image n) answer.note_is ∙ sym torn.no_image;
-        words = λ none. ap (λ (n : BankNote). n.torn) answer.note_is ∙ torn.words_are;
-      }
-  by None is answer = absurd (cc (went, ap (λ (n : BankNote). n.outcome) answer.note_is))
+  delete_called left asked flags ok err = one_call g first kept s done (delete slot) (one_leaves g first kept (delete slot) [] s.store left) asked refl ended before refl (λ store. (tt, tt)) (λ n plain. plain) (λ n. tt) (IfErr-weaker ended (HasFlags true false) _ (λ fault has. flags_break true false fault (delete slot) s.store (refl, refl) has) flags) stands ok err told

@@ -1,6 +1,6 @@
 -- The copy of an image that went active: from how it ended to what the model says.
-use Rattle.std.proofs.Common.{◌≡◌, inl, inr, ℕ, suc, ◌≤◌, List, [], ◌∷◌, ◌++◌, length, Bool, true, false, not, ◌&&◌, cond, Option, Some, None, Result, Ok, Err, refl, sym, ◌∙◌, ap, subst, arith}
-use Rattle.std.specs.Prelude.{◌-◌, OnOk, IfErr, IfSome, slice_get, option_and_then}
+use Rattle.std.proofs.Common.{◌≡◌, inl, inr, ℕ, suc, ◌≤◌, List, [], ◌∷◌, ◌++◌, length, Bool, true, false, not, ◌&&◌, Option, Some, None, Result, Ok, Err, refl, sym, ◌∙◌, ap, subst, arith}
+use Rattle.std.specs.Prelude.{◌-◌, OnOk, IfErr}
 use Rattle.std.specs.Option.{option_map}
 use Rattle.std.proofs.lemmas.List.Quantifiers.{position-Some}
 use Rattle.std.proofs.lemmas.Option.{same_Some}
@@ -9,14 +9,11 @@ use Rattle.tbl_kinds.specs.StoreCalls.{StoreCall, copy, after, broken, CanBreak}
 use Rattle.tbl_kinds.specs.Notes.{untouched}
 use Rattle.tbl_kinds.specs.declared.block.Block.{Block}
 use Rattle.tbl_kinds.specs.declared.block.BlockKind.{BlockKind}
-use Rattle.tbl_kinds.specs.Buffers.{Buffer}
 use Rattle.tbl_kinds.specs.declared.note.BankNote.{BankNote}
 use Rattle.tbl_kinds.specs.declared.entry.Answer.{Answer}
-use Rattle.tbl_model.specs.State.{Table, Tables}
-use Rattle.tbl_model.specs.Tables.{table_at, is_critical}
 use Rattle.tbl_model.specs.Effects as model
 use Rattle.tbl_model.specs.StoreUse.{left_by}
-use Rattle.tbl_model.specs.Copies.{went_active, is_activation, block_of, copied_to, copied_of, then_copy}
+use Rattle.tbl_model.specs.Copies.{copied_to}
 use Rattle.tbl_model.specs.declared.telemetry.TelemetryEvent.{TelemetryEvent}
 use Rattle.tbl_model.specs.declared.telemetry.TelemetryEvent.TheVariants.{CopyFailed}
 use Rattle.cds_store.specs.Calls.{CallCounted, is_gate, is_old}
@@ -36,9 +33,11 @@ use Rattle.tbl_outside.specs.Bank.{LeavesOnly}
 use Rattle.tbl_outside.proofs.Moments.{leaves_among}
 use Rattle.cds_layout.specs.Images.{store_of}
 use Rattle.cds_store.specs.Moments.{LeavesIn}
-use Rattle.store_requests.proofs.Moments.{one_leaves}
-use Rattle.store_requests.specs.Copying.{IsCopied, IsCopyCall}
-use Rattle.request_effects.specs.Effects.{Effect, IsEffect, HasRoom}
+use Rattle.store_requests.proofs.Moments.{one_leaves, unmoved}
+use Rattle.tbl_laws.proofs.Crashes.{before_calls}
+use Rattle.tbl_session.specs.Restores.{RestoresHeld}
+use Rattle.store_requests.specs.Copying.{IsCopied, IsCopyCall, Copied, KeepsRoom}
+use Rattle.request_effects.specs.Effects.{Effect, IsEffect}
 use Rattle.tbl_outside.specs.declared.bank.Bank.{Ghosts}
 
 -- ---- the block of a table
@@ -89,6 +88,7 @@ module _ {B : Type 0} (g : Ghosts B) (first kept : StoreParts B) (e : model.Effe
     writing = λ stop. absurd (cc stop);
     moments = λ m. leaves_among (moments m) (λ image all. all (writes e.calls));
     asked = bank_calls_none g first.bank kept.bank (asked_in (g.now first.bank) first.slots e.calls) before.note still told;
+    held = subst (λ (calls : List StoreCall). RestoresHeld (g.now first.bank) calls e.next.store (with_boot ended stopped found untouched)) (sym is.calls) tt;
   })
 
   pub stays : (g.tells_moments → LeavesOnly g.clock g.left_since first.bank kept.bank (λ image. (calls : List StoreCall) → DuringCalls calls e.next.store (store_of image))) → kept.bank ≡ first.bank → (means : BankNote → model.Effect) → ((n : BankNote) → means n ≡ e) → before.note ≡ untouched → StandsFor g.tells g.now kept e.next.store → Copies before means
@@ -124,6 +124,7 @@ module _ {B : Type 0} (g : Ghosts B) (first kept : StoreParts B) (e : model.Effe
     writing = λ stop. refl;
     moments = one_leaves g first kept (copy slot image) [] e.next.store left;
     asked = asked;
+    held = tt;
   })
   copied_after prior row slot image done (Err (Fault gate old)) left asked stands can ok err copied = by_told done (λ n. copied_to row n e (Some slot) (Some image)) (broken_note (Fault gate old) untouched) copied.note (λ ended stopped found. record {
     blocks = err e.next.store stands;
@@ -145,6 +146,7 @@ module _ {B : Type 0} (g : Ghosts B) (first kept : StoreParts B) (e : model.Effe
     writing = λ stop. refl;
     moments = one_leaves g first kept (copy slot image) [] e.next.store left;
     asked = asked;
+    held = tt;
   })
   copied_after prior row slot image done (Err (Cut gate old)) left asked stands can ok err copied = by_told done (λ n. copied_to row n e (Some slot) (Some image)) (broken_note (Cut gate old) untouched) copied.note (λ ended stopped found. record {
     blocks = err e.next.store stands;
@@ -166,6 +168,7 @@ module _ {B : Type 0} (g : Ghosts B) (first kept : StoreParts B) (e : model.Effe
     writing = λ stop. refl;
     moments = one_leaves g first kept (copy slot image) [] e.next.store left;
     asked = asked;
+    held = tt;
   })
 
   -- what means the same
@@ -226,8 +229,7 @@ copied_call g old new before done row slot (Err (Cut gate prior)) booted more_fa
 }
 
 -- a copy that failed sends one packet more
-pub copied_room : (row slot : ℕ) (ended : Result Unit BankFault) (before done : Effect) → IsCopied row slot ended before done
-    → (packets : Buffer) → HasRoom 24 packets before → HasRoom 0 packets done
+pub copied_room : (row slot : ℕ) (ended : Result Unit BankFault) (before done : Effect) → IsCopied row slot ended before done → KeepsRoom 24 before done
 copied_room row slot (Ok x) before done copied packets had = record {
   none = had.none;
   room = let room = had.room in rw (copied.events, copied.shown, copied.notice) (omega (arith, room));
@@ -244,8 +246,8 @@ copied_room row slot (Err (Cut gate old)) before done copied packets had = recor
 -- ---- nothing is copied
 
 -- less room is enough if nothing more is reported
-pub same_room : (critical : Bool) (packets : Buffer) (before : Effect) (note : BankNote) → HasRoom (cond critical 24 0) packets before → HasRoom 0 packets (record before { note = note })
-same_room critical packets before note had = record { none = had.none; room = let room = had.room in omega (arith, room) }
+pub keeps_room : (more : ℕ) (before : Effect) (note : BankNote) → KeepsRoom more before (record before { note = note })
+keeps_room more before note packets had = record { none = had.none; room = let room = had.room in omega (arith, room) }
 
 pub uncopied_call : {B : Type 0} (g : Ghosts B) (store : StoreParts B) (before : Effect) (note : BankNote) → store.booted ≡ true → note ≡ untouched → IsCopyCall g store store before (record before { note = note })
 uncopied_call g store before note booted is = record {
@@ -258,69 +260,13 @@ uncopied_call g store before note booted is = record {
   booted = booted;
 }
 
--- ---- which image is copied
-
-pub went_as : (e : model.Effect) (events : List TelemetryEvent) (b : Bool) → e.events ≡ events → b ≡ is_activation (slice_get events (length events - 1)) → went_active e ≡ b
-went_as e events b same is = ap (λ (d : List TelemetryEvent). is_activation (slice_get d (length d - 1))) same ∙ sym is
-
-chosen : {X : Type 0} (b : Bool) (x y : X) → b ≡ true → cond b x y ≡ x
-chosen true x y is = refl
-chosen false x y is = absurd (cc is)
-
-left_out : {X : Type 0} (b : Bool) (x y : X) → b ≡ false → cond b x y ≡ y
-left_out false x y is = refl
-left_out true x y is = absurd (cc is)
-
-module _ (row : ℕ) (n : BankNote) (e : model.Effect) (tables : Tables) (same : e.next.tables ≡ tables) where
-  -- none went active
-  pub none_active : went_active e ≡ false → then_copy row n e ≡ e
-  none_active is = left_out (went_active e) (copied_of row n e (table_at e.next.tables row)) e is
-
-  unless_active : (t : Option Table) → table_at tables row ≡ t → copied_of row n e t ≡ e → then_copy row n e ≡ e
-  unless_active t there is = either (went_active e) where
-    found : copied_of row n e (table_at e.next.tables row) ≡ e
-    found = ap (λ (ts : Tables). copied_of row n e (table_at ts row)) same ∙ ap (copied_of row n e) there ∙ is
-
-    either : (b : Bool) → cond b (copied_of row n e (table_at e.next.tables row)) e ≡ e
-    either true = found
-    either false = refl
-
-  -- the table isn't critical, if there is one
-  pub none_critical : IfSome (table_at tables row) (λ t. false ≡ is_critical t) → then_copy row n e ≡ e
-  none_critical plain = by (table_at tables row) refl plain where
-    by : (t : Option Table) → table_at tables row ≡ t → IfSome t (λ t. false ≡ is_critical t) → then_copy row n e ≡ e
-    by None there plain = unless_active None there refl
-    by (Some t) there plain = unless_active (Some t) there (left_out (is_critical t) (copied_to row n e (block_of t e.next.store) t.last) e (sym plain))
-
-  -- it has no image
-  pub none_there : None ≡ option_and_then (λ (t : Table). t.last) (table_at tables row) → then_copy row n e ≡ e
-  none_there none = by (table_at tables row) refl none where
-    without : (t : Table) → None ≡ t.last → (slot : Option ℕ) → copied_to row n e slot t.last ≡ e
-    without t none None = refl
-    without t none (Some slot) = ap (copied_to row n e (Some slot)) (sym none)
-
-    critical : (t : Table) → None ≡ t.last → (b : Bool) → cond b (copied_to row n e (block_of t e.next.store) t.last) e ≡ e
-    critical t none true = without t none (block_of t e.next.store)
-    critical t none false = refl
-
-    by : (t : Option Table) → table_at tables row ≡ t → None ≡ option_and_then (λ (t : Table). t.last) t → then_copy row n e ≡ e
-    by None there none = unless_active None there refl
-    by (Some t) there none = unless_active (Some t) there (critical t none (is_critical t))
-
-  -- it is critical, and this is its image
-  pub one_there : (t : Table) (image : List ℕ) → went_active e ≡ true → table_at tables row ≡ Some t → true ≡ is_critical t → Some image ≡ t.last → then_copy row n e ≡ copied_to row n e (block_of t e.next.store) (Some image)
-  one_there t image is there critical last =
-      chosen (went_active e) (copied_of row n e (table_at e.next.tables row)) e is ∙ ap (λ (ts : Tables). copied_of row n e (table_at ts row)) same ∙ ap (copied_of row n e) there
-      ∙ chosen (is_critical t) (copied_to row n e (block_of t e.next.store) t.last) e (sym critical) ∙ ap (copied_to row n e (block_of t e.next.store)) (sym last)
-
-  -- there is no table
-  pub none_named : None ≡ option_map (λ (t : Table). t.name) (table_at tables row) → then_copy row n e ≡ e
-  none_named none = by (table_at tables row) refl none where
-    by : (t : Option Table) → table_at tables row ≡ t → None ≡ option_map (λ (t : Table). t.name) t → then_copy row n e ≡ e
-    by None there none = unless_active None there refl
-    by (Some t) there none = absurd (cc none)
-
--- the table of this name, and its image
-pub named_there : (o : Option Table) (name : List ℕ) → Some name ≡ option_map (λ (t : Table). t.name) o → (t : Table) × (o ≡ Some t) × (t.name ≡ name)
-named_there None name is = absurd (cc is)
-named_there (Some t) name is = (t, refl, sym (same_Some name t.name is))
+-- the bank's laws say that a reset leaves what it holds
+module _ {B : Type 0} (g : Ghosts B) (holds : (bank : B) (image : List ℕ) → g.tells_moments → g.may_leave bank image → image ≡ g.now bank) (only : (bank : B) (image : List ℕ) → g.tells_moments → g.left_since bank (g.clock bank) image → g.may_leave bank image) where
+  pub uncopied : (store : StoreParts B) (before : Effect) (note : BankNote) → store.booted ≡ true → before.note ≡ untouched → note ≡ untouched → (Of : model.Effect → Type 0) (means : model.Effect → BankNote → model.Effect)
+      → ((e : model.Effect) → Of e → StandsFor g.tells g.now store e.next.store → e.events ≡ before.events → (n : BankNote) → means e n ≡ e) → Copied g store store before (record before { note = note }) Of means
+  uncopied store before note booted fresh is Of means same = record {
+    effect = λ tells e told of stands. with_note g store store e before told (means e) note (is ∙ sym fresh)
+        (stays g store store e before told (unmoved g holds only store store (λ left. (calls : List StoreCall) → DuringCalls calls e.next.store left) refl (λ calls. before_calls calls e.next.store _ (stands.shows tells))) refl
+        (means e) (same e of stands told.events) fresh stands);
+    call = uncopied_call g store before note booted is;
+  }

@@ -20,7 +20,6 @@ use Rattle.tbl_laws.proofs.Ordinary.{new_row}
 use Rattle.std.proofs.lemmas.Bool.Decides.{nat_tests}
 use Rattle.std.proofs.lemmas.List.{length-replicate}
 use Rattle.tbl_model.specs.Effects as model
-use Rattle.tbl_model.specs.Effects.{answered}
 use Rattle.tbl_model.specs.StoreUse.{then_call}
 use Rattle.tbl_model.specs.AppBlocks.{any_of, has_size}
 use Rattle.tbl_model.specs.CriticalTables.{critical_limit, registered, not_kept, recovered, instead, kept_effect, critical_effect}

@@ -3,7 +3,12 @@ pub mod Both
 pub mod Calls
 pub mod CopyEnds
 pub mod CriticalTables
+pub mod Entries
+pub mod EntryCalls
+pub mod MadeBlocks
 pub mod Moments
 pub mod OwnBlocks
-pub mod Registrations
+pub mod Promised
 pub mod Reserved
+pub mod RestoreCalls
+pub mod WhichCopied

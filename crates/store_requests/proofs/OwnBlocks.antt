@@ -10,7 +10,7 @@ use Rattle.tbl_kinds.specs.StoreSteps.{stored_at}
 use Rattle.tbl_kinds.specs.Notes.{restored_image}
 use Rattle.tbl_kinds.specs.declared.block.BlockKind.TheVariants.{Table}
 use Rattle.tbl_kinds.specs.declared.note.BankNote.{BankNote}
-use Rattle.tbl_kinds.specs.declared.status.TheConstants.Status.{SUCCESS, ERR_IMAGE_SIZE, ERR_CDS_NOT_FOUND, ERR_NO_SUCH_TABLE}
+use Rattle.tbl_kinds.specs.declared.status.TheConstants.Status.{SUCCESS, ERR_IMAGE_SIZE, ERR_CDS_NOT_FOUND, ERR_TABLE_ACTIVE, ERR_NO_SUCH_TABLE}
 use Rattle.tbl_kinds.specs.declared.status.Status.{Status}
 use Rattle.tbl_model.specs.State.{State, Table as Row, Tables}
 use Rattle.tbl_model.specs.Tables.{table_at}
@@ -26,6 +26,7 @@ use Rattle.cds_store.specs.StoreBlocks.{StoreParts, StandsFor, slot_of}
 use Rattle.cds_store.proofs.Showing.{slot_is}
 use Rattle.cds_store.specs.declared.slot.Slot.{Slot}
 use Rattle.store_requests.specs.Called.{is_own_slot}
+use Rattle.store_requests.specs.OwnBlocks.{FindsOwn, Misses, copying, restoring, deleting}
 use Rattle.tbl_outside.specs.declared.bank.Bank.{Ghosts}
 
 -- ---- the model
@@ -53,15 +54,12 @@ module _ {B : Type 0} (g : Ghosts B) (kept : StoreParts B) (s : State) (app slot
 
 -- ---- the requests
 
-abbrev Finds : State → ℕ → ℕ → ℕ → Type 0
-Finds s app slot size = (effect : Stored → Effect) → (b : Stored) × (b.block.size ≡ size) × (if_block s app slot effect ≡ effect b)
-
 turned : (b : Bool) (x y : Effect) → cond (not b) x y ≡ cond b y x
 turned true x y = refl
 turned false x y = refl
 
-pub copy_means : (s : State) (app slot own size : ℕ) (image : List ℕ) → own ≡ slot → Finds s app slot size → (n : BankNote)
-    → cds_copy_effect s app slot image n ≡ cond (length image == size) (then_call (copy own image ∷ []) n faulted (answered s SUCCESS 0)) (answered s ERR_IMAGE_SIZE 0)
+pub copy_means : (s : State) (app slot own size : ℕ) (image : List ℕ) → own ≡ slot → FindsOwn s app slot size → (n : BankNote)
+    → cds_copy_effect s app slot image n ≡ copying s own size image n
 unfolding cds_copy_effect
 copy_means s app slot own size image same finds n =
     let done = then_call (copy slot image ∷ []) n faulted (answered s SUCCESS 0) in
@@ -70,23 +68,21 @@ copy_means s app slot own size image same finds n =
     ∙ ap (λ z. cond (length image == z) done (answered s ERR_IMAGE_SIZE 0)) b.1
     ∙ ap (λ k. cond (length image == size) (then_call (copy k image ∷ []) n faulted (answered s SUCCESS 0)) (answered s ERR_IMAGE_SIZE 0)) (sym same)
 
-pub restore_means : (s : State) (app slot own size : ℕ) → own ≡ slot → Finds s app slot size → (n : BankNote)
-    → cds_restore_effect s app slot n ≡ then_call (restore own (restored_image n) ∷ []) n faulted (restore_answer s n.torn (restored_image n))
+pub restore_means : (s : State) (app slot own size : ℕ) → own ≡ slot → FindsOwn s app slot size → (n : BankNote)
+    → cds_restore_effect s app slot n ≡ restoring s own n
 unfolding cds_restore_effect
 restore_means s app slot own size same finds n =
     (finds (λ b. then_call (restore slot (restored_image n) ∷ []) n faulted (restore_answer s n.torn (restored_image n)))).2
     ∙ ap (λ k. then_call (restore k (restored_image n) ∷ []) n faulted (restore_answer s n.torn (restored_image n))) (sym same)
 
-pub delete_means : (s : State) (app slot own size : ℕ) → own ≡ slot → Finds s app slot size → (n : BankNote)
-    → cds_delete_effect s app slot n ≡ then_call (delete own ∷ []) n faulted (answered s SUCCESS 0)
+pub delete_means : (s : State) (app slot own size : ℕ) → own ≡ slot → FindsOwn s app slot size → (n : BankNote)
+    → cds_delete_effect s app slot n ≡ deleting s own n
 unfolding cds_delete_effect
 delete_means s app slot own size same finds n =
     (finds (λ b. then_call (delete slot ∷ []) n faulted (answered s SUCCESS 0))).2
     ∙ ap (λ k. then_call (delete k ∷ []) n faulted (answered s SUCCESS 0)) (sym same)
 
--- nothing is there
-abbrev Misses : State → ℕ → ℕ → Status → Type 0
-Misses s app slot status = (effect : Stored → Effect) → if_block s app slot effect ≡ answered s status 0
+-- ---- nothing is there
 
 pub no_copy : (s : State) (app slot : ℕ) (image : List ℕ) (status : Status) → Misses s app slot status → (n : BankNote) → cds_copy_effect s app slot image n ≡ answered s status 0
 unfolding cds_copy_effect
@@ -155,6 +151,13 @@ pub doubtful_there : (slots : List (Option Slot)) (name : List ℕ) (o : Option 
 doubtful_there slots name None is = tt
 doubtful_there slots name (Some n) is = found_there (is_doubtful_slot Table name) slots n refl (sym is)
 
-pub table_means : (s : State) (n : BankNote) (any row : Option ℕ) (slot : ℕ) → any ≡ Some slot → is_some row ≡ false → delete_table_block s n any row ≡ then_call (delete slot ∷ []) n faulted (answered s SUCCESS 0)
+pub table_means : (s : State) (n : BankNote) (any row : Option ℕ) (slot : ℕ) → any ≡ Some slot → is_some row ≡ false → delete_table_block s n any row ≡ deleting s slot n
 table_means s n any None slot is none = ap (λ o. delete_table_block s n o None) is
 table_means s n any (Some row) slot is none = absurd (cc none)
+
+pub none_means : (s : State) (n : BankNote) (any row : Option ℕ) → any ≡ None → delete_table_block s n any row ≡ answered s ERR_CDS_NOT_FOUND 0
+none_means s n any row none = ap (λ o. delete_table_block s n o row) none
+
+pub active_means : (s : State) (n : BankNote) (any row : Option ℕ) (slot : ℕ) → any ≡ Some slot → is_some row ≡ true → delete_table_block s n any row ≡ answered s ERR_TABLE_ACTIVE 0
+active_means s n any (Some row) slot is there = ap (λ o. delete_table_block s n o (Some row)) is
+active_means s n any None slot is there = absurd (cc there)

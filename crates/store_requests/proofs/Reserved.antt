@@ -51,6 +51,10 @@ refused false false exists full done same room = refl
 refused true room exists full done same none = absurd (cc same)
 refused false true exists full done same room = absurd (cc room)
 
+-- one of this size is there already
+pub there_already : (s : State) (name : List ℕ) (size : ℕ) (n : BankNote) (slot : ℕ) → has_size size (stored_at s.store slot) ≡ true → block_effect s name size n (Some slot) ≡ answered s INFO_CDS_EXISTS slot
+there_already s name size n slot is = rw is refl
+
 pub not_lacking : (b : Bool) → false ≡ not b → b ≡ true
 not_lacking true is = refl
 not_lacking false is = absurd (cc is)
@@ -110,7 +114,7 @@ module _ {B : Type 0} (g : Ghosts B) (first before kept : StoreParts B) (s : Sta
       (λ n. block_means s name size n None (doubtful_of App name s.store) (any_is s name None none) refl (not_lacking (has_room size (doubtful_of App name s.store) s.store) (full s.store stands))
       ∙ ap (λ k. then_call (reserve App name size ∷ []) n faulted (answered s SUCCESS (unwrap_or k 0))) (at s.store stands))
       (by_note g first kept s done (λ n. then_call (reserve App name size ∷ []) n faulted (answered s SUCCESS slot)) (done_note untouched) told.note_is
-      (calls_done g first kept s done (reserve App name size ∷ []) SUCCESS slot [] untouched (one_leaves g first kept (reserve App name size) [] s.store left) asked told (ok s.store stands) (λ is. cc is) refl (refl, refl) (tt, tt) (λ n restored torn. (restored, torn))))
+      (calls_done g first kept s done (reserve App name size ∷ []) SUCCESS slot [] untouched (one_leaves g first kept (reserve App name size) [] s.store left) asked told (ok s.store stands) (λ is. cc is) refl (refl, refl) (tt, tt) (λ n restored torn. (restored, torn)) (λ n restored torn. tt)))
   new_called (Err NoRoom) left asked still none stands ok at full untouched' err breaks told =
       calls_same g first kept s done (λ n. answered s ERR_CDS_NO_ROOM 0) (λ n. block_effect s name size n None)
       (λ n. no_room s name size n None (doubtful_of App name s.store) (any_is s name None none) refl (lacking (has_room size (doubtful_of App name s.store) s.store) (full s.store stands)))
@@ -132,7 +136,7 @@ module _ {B : Type 0} (g : Ghosts B) (first before kept : StoreParts B) (s : Sta
       calls_same g first kept s done (λ n. then_call (delete old ∷ reserve App name size ∷ []) n faulted (answered s SUCCESS slot)) (λ n. then_call (renewal App name size (Some old)) n faulted (answered s SUCCESS (new_slot App name (Some old) s.store)))
       (λ n. ap (λ k. then_call (delete old ∷ reserve App name size ∷ []) n faulted (answered s SUCCESS (unwrap_or k 0))) (at left stands))
       (by_note g first kept s done (λ n. then_call (delete old ∷ reserve App name size ∷ []) n faulted (answered s SUCCESS slot)) (done_note (done_note untouched)) told.note_is
-      (calls_done g first kept s done (delete old ∷ reserve App name size ∷ []) SUCCESS slot [] (done_note untouched) moments asked told (ok left stands) (λ is. cc is) refl (refl, refl) (tt, (tt, tt)) (λ n restored torn. (restored, torn))))
+      (calls_done g first kept s done (delete old ∷ reserve App name size ∷ []) SUCCESS slot [] (done_note untouched) moments asked told (ok left stands) (λ is. cc is) refl (refl, refl) (tt, (tt, tt)) (λ n restored torn. (restored, torn)) (λ n restored torn. tt)))
   renewed (Err NoRoom) old moments asked stands alone room ok at full err breaks told =
       let left = after (delete old) s.store in
       let none : doubtful_of App name left ≡ None = sym (doubtful_same App name before.slots left stands.slots) ∙ alone in

@@ -1,6 +1,8 @@
 -- What a request on a block asks of the bank, call by call.
 use Rattle.std.specs.Prelude.{◌≡◌, ℕ, List, [], ◌∷◌, ◌++◌, slice_set, true, false, Option, Some, None, unwrap_or}
-use Rattle.std.specs.Option.{option_map, option_map_or, option_or}
+use Rattle.std.specs.Option.{ForSome, option_map, option_map_or, option_or}
+use Rattle.tbl_kinds.specs.Blocks.{Store as Blocks}
+use Rattle.tbl_model.specs.Applications.{full_name}
 use Rattle.tbl_kinds.specs.StoreCalls.{StoreCall, reserve, copy, restore, delete}
 use Rattle.tbl_kinds.specs.declared.block.BlockKind.{BlockKind}
 use Rattle.tbl_kinds.specs.declared.block.BlockKind.TheVariants as kind
@@ -12,7 +14,7 @@ use Rattle.cds_layout.specs.Images.{spelled}
 use Rattle.cds_layout.specs.Order.{restore_calls, copy_calls, delete_calls, close_calls, reserve_calls}
 use Rattle.cds_store.specs.Slots.{open_slot, doubtful_slot, without_slot, room_in}
 use Rattle.cds_store.specs.Sound.{slot_at}
-use Rattle.cds_store.specs.StoreBlocks.{StoreParts}
+use Rattle.cds_store.specs.StoreBlocks.{StoreParts, StandsFor}
 use Rattle.cds_store.specs.declared.slot.Slot.{Slot}
 
 -- by how the calls of the store went: if none was made, the bank is as it was; if they are done, it was asked all of this, and else the
@@ -48,6 +50,41 @@ renew_at slots old name size = option_map (λ (calls : List BankCall). delete_ca
 abbrev pub register_at : Option ℕ → List (Option Slot) → List ℕ → ℕ → Option (List BankCall)
 register_at None slots name size = make_at kind.App slots name size
 register_at (Some old) slots name size = renew_at slots old name size
+
+-- ---- what a request asked that ended so
+
+-- to delete the block of a slot
+abbrev pub asks_delete : {B : Type 0} → ℕ → Ghosts B → StoreParts B → StoreParts B → Outcome → Type 0
+asks_delete slot g old new outcome = AsksBy g old.bank new.bank outcome (delete_calls slot)
+
+-- to delete that of a table of this name
+abbrev pub asks_delete_named : {B : Type 0} → List ℕ → Ghosts B → StoreParts B → StoreParts B → Outcome → Type 0
+asks_delete_named name g old new outcome = AsksBy g old.bank new.bank outcome (delete_named old.slots name)
+
+-- to copy an image into it
+abbrev pub asks_copy : {B : Type 0} → ℕ → List ℕ → Ghosts B → StoreParts B → StoreParts B → Outcome → Type 0
+asks_copy slot image g old new outcome = g.tells → AsksBy g old.bank new.bank outcome (copy_at (g.now old.bank) old.slots slot image)
+
+-- to restore its image
+abbrev pub asks_restore : {B : Type 0} → ℕ → Ghosts B → StoreParts B → StoreParts B → Outcome → Type 0
+asks_restore slot g old new outcome = g.tells → AsksBy g old.bank new.bank outcome (restore_at (g.now old.bank) old.slots slot)
+
+-- to make a block of an application
+abbrev pub asks_make : {B : Type 0} → List ℕ → ℕ → Ghosts B → StoreParts B → StoreParts B → Outcome → Type 0
+asks_make name size g old new outcome = ForSome (make_at kind.App old.slots name size) (AsksBy g old.bank new.bank outcome)
+
+-- to make it in the place of one of another size
+abbrev pub asks_renew : {B : Type 0} → ℕ → List ℕ → ℕ → Ghosts B → StoreParts B → StoreParts B → Outcome → Type 0
+asks_renew slot name size g old new outcome = (blocks : Blocks) → StandsFor g.tells g.now old blocks → ForSome (renew_at old.slots slot name size) (AsksBy g old.bank new.bank outcome)
+
+-- one or the other, by whether one of this name is open
+abbrev pub asks_register : {B : Type 0} → List ℕ → ℕ → Ghosts B → StoreParts B → StoreParts B → Outcome → Type 0
+asks_register name size g old new outcome = (blocks : Blocks) → StandsFor g.tells g.now old blocks
+    → ForSome (register_at (open_slot kind.App name old.slots) old.slots name size) (AsksBy g old.bank new.bank outcome)
+
+-- for the application of this name, if it runs
+abbrev pub asks_register_for : {B : Type 0} → Option (List ℕ) → List ℕ → ℕ → Ghosts B → StoreParts B → StoreParts B → Outcome → Type 0
+asks_register_for own short size g old new outcome = ForSome (option_map (λ name. full_name name short) own) (λ name. asks_register name size g old new outcome)
 
 -- ---- any calls of the store
 

@@ -18,6 +18,10 @@ use Rattle.tbl_outside.specs.Bank.{LeavesOnly}
 use Rattle.tbl_outside.specs.Counts.{RoseBy}
 use Rattle.tbl_model.specs.Telemetry.{Question}
 use Rattle.cds_layout.specs.Images.{store_of}
+use Rattle.std.specs.Global.{Box}
+use Rattle.tbl_kinds.specs.Buffers.{Buffer}
+use Rattle.tbl_kinds.specs.Notes.{untouched, restored_image}
+use Rattle.tbl_kinds.specs.declared.note.Outside.{Outside}
 use Rattle.tbl_kinds.specs.declared.note.BankNote.{BankNote}
 use Rattle.tbl_kinds.specs.declared.note.Outcome.{Outcome}
 use Rattle.tbl_kinds.specs.declared.note.Outcome.TheVariants.{Untouched, Done, Failed, Stopped}
@@ -31,6 +35,7 @@ use Rattle.cds_store.specs.declared.fault.ReserveFault.{ReserveFault}
 use Rattle.cds_store.specs.declared.fault.ReserveFault.TheVariants.{NoRoom, Bank}
 use Rattle.request_effects.specs.Effects.{Effect, IsEffect, IsWithin, uncalled}
 use Rattle.store_requests.specs.BankCalls.{AsksIn}
+use Rattle.store_requests.specs.declared.notes.RestoreNote.{RestoreNote}
 use Rattle.tbl_outside.specs.declared.bank.Bank.{Ghosts}
 
 -- ---- the boot after it
@@ -65,6 +70,14 @@ pub record Troubled {B : Type 0} (g : Ghosts B) (old new : B) (note : BankNote) 
 
 -- ---- the calls
 
+-- it has no call yet
+abbrev pub IsFresh : Box Outside → Type 0
+IsFresh outside = outside.value.note ≡ untouched
+
+-- one call more is done
+abbrev pub done_note : BankNote → BankNote
+done_note note = record note { outcome = Done; done = note.done + 1 }
+
 -- the next call broke off
 abbrev pub broken_note : BankFault → BankNote → BankNote
 broken_note (Fault gate old) note = record note { outcome = Failed; gate = gate; old = old }
@@ -90,9 +103,10 @@ pub record IsTold (done : Effect) (status : Status) (detail : ℕ) (bytes : List
   pub note_is : done.note ≡ note
   pub silent : IsSilent done
 
--- one call more is done
-abbrev pub done_note : BankNote → BankNote
-done_note note = record note { outcome = Done; done = note.done + 1 }
+-- the reply's bytes, if it has any
+abbrev pub bytes_in : Option Buffer → List ℕ
+bytes_in None = []
+bytes_in (Some bytes) = bytes.list
 
 -- whether a slot has an open block of an application of this name
 abbrev pub is_own_slot : List ℕ → Option Slot → Bool
@@ -108,12 +122,36 @@ abbrev pub call_status : Result Unit BankFault → Status
 call_status (Ok x) = SUCCESS
 call_status (Err fault) = broken_status fault
 
--- a restore that gave no image: what was noted of its block, or that the bank failed
-abbrev pub IsUngiven : Effect → Option ℕ → List ℕ → BankNote → Type 0
-IsUngiven done (Some told) bytes note = IsTold done ERR_CDS_TORN told bytes (record (done_note note) { torn = told })
-IsUngiven done None bytes note = IsTold done ERR_CDS_FAULT 0 bytes (broken_note (Fault false false) note)
+-- ---- a restore, which is the only call of its request
 
--- the same of a reservation, whose note has its slot, or that there is no room
+-- nothing was restored yet, and there is room for an image of this size
+pub record CanKeep (size : ℕ) (room : RestoreNote) : Type 0 where
+  pub fresh : IsFresh room.note
+  pub empty : room.kept.list ≡ []
+  pub spare : size ≤ room.kept.spare
+
+-- it gave this image
+pub record NotesImage (image : List ℕ) (note : BankNote) : Type 0 where
+  pub done : note ≡ record (done_note untouched) { restored = note.restored }
+  pub gave : restored_image note ≡ Some image
+
+-- its block is torn, with these check words
+abbrev pub torn_note : ℕ → BankNote
+torn_note words = record (done_note untouched) { torn = words }
+
+-- the image is the reply
+pub record IsGiven (done : Effect) (image : List ℕ) : Type 0 where
+  pub told : IsTold done SUCCESS 0 image done.note
+  pub noted : NotesImage image done.note
+
+-- a restore that gave no image: what was noted of its block, or that the bank failed
+abbrev pub IsUngiven : Effect → Option ℕ → Type 0
+IsUngiven done (Some told) = IsTold done ERR_CDS_TORN told [] (torn_note told)
+IsUngiven done None = IsTold done ERR_CDS_FAULT 0 [] (broken_note (Fault false false) untouched)
+
+-- ---- a reservation
+
+-- its note says that there is no room by no call
 abbrev pub reserve_note : Result ℕ ReserveFault → BankNote → BankNote
 reserve_note (Ok slot) note = done_note note
 reserve_note (Err NoRoom) note = note
@@ -167,6 +205,7 @@ pub record IsCalled {B : Type 0} (g : Ghosts B) (old kept : StoreParts B) (first
   pub writing : note.outcome ≡ Stopped → writes e.calls ≡ e.calls
   pub moments : Leaving g old kept (DuringCalls (writes e.calls) first.state.store)
   pub asked : AsksIn g old kept done.note.outcome e.calls
+  pub held : RestoresHeld (g.now old.bank) e.calls first.state.store note
 
 -- this holds whatever a boot after the calls reports
 abbrev pub CallsAfter : {B : Type 0} → Ghosts B → StoreParts B → StoreParts B → BeforeCalls → Effect → (BankNote → model.Effect) → Type 0
@@ -176,8 +215,3 @@ CallsAfter g old kept first done means = (ended stopped : Bool) (found : List �
 -- the same if no validation function is asked
 abbrev pub Calls : {B : Type 0} → Ghosts B → StoreParts B → StoreParts B → State → Effect → (BankNote → model.Effect) → Type 0
 Calls g old kept s done means = CallsAfter g old kept (unasked s) done means
-
--- what a restore among its calls gave is what its block held in the bank before, whatever a boot after them reports
-abbrev pub GaveAsHeld : {B : Type 0} → Ghosts B → StoreParts B → Store → Effect → (BankNote → model.Effect) → Type 0
-GaveAsHeld g old blocks done means = (ended stopped : Bool) (found : List ℕ)
-    → RestoresHeld (g.now old.bank) (means (with_boot ended stopped found done.note)).calls blocks (with_boot ended stopped found done.note)

@@ -1,5 +1,15 @@
 -- What the model says of a block of an application's own, once its slot is known.
-use Rattle.std.specs.Prelude.{ℕ, ◌==◌, List, [], ◌∷◌, length, Some, if◌then◌else◌}
+use Rattle.std.specs.Prelude.{◌≡◌, ℕ, ◌==◌, ◌≤◌, true, List, [], ◌∷◌, length, Some, if◌then◌else◌}
+use Rattle.tbl_kinds.specs.Blocks.{Stored, Store as Blocks}
+use Rattle.tbl_kinds.specs.Names.{is_name}
+use Rattle.tbl_kinds.specs.StoreSteps.{has_room}
+use Rattle.tbl_kinds.specs.declared.block.BlockKind.{BlockKind}
+use Rattle.tbl_kinds.specs.declared.status.Status.{Status}
+use Rattle.tbl_outside.specs.declared.bank.Bank.{Ghosts}
+use Rattle.cds_store.specs.Slots.{open_slot}
+use Rattle.cds_store.specs.StoreBlocks.{StoreParts, StandsFor}
+use Rattle.store_requests.specs.Called.{CanKeep}
+use Rattle.store_requests.specs.declared.own_blocks.GiveRoom.{GiveRoom}
 use Rattle.tbl_kinds.specs.Notes.{restored_image}
 use Rattle.tbl_kinds.specs.StoreCalls.{copy, restore, delete}
 use Rattle.tbl_kinds.specs.declared.block.BlockKind.TheVariants as kind
@@ -8,7 +18,7 @@ use Rattle.tbl_kinds.specs.declared.status.TheConstants.Status.{SUCCESS, ERR_IMA
 use Rattle.tbl_model.specs.State.{State}
 use Rattle.tbl_model.specs.Effects.{Effect, answered}
 use Rattle.tbl_model.specs.StoreUse.{then_call}
-use Rattle.tbl_model.specs.AppBlocks.{faulted, new_slot, renewal, restore_answer}
+use Rattle.tbl_model.specs.AppBlocks.{faulted, if_block, new_slot, renewal, restore_answer}
 
 -- the block of another size in this slot is deleted, and one of this size is made
 abbrev pub renewing : State → List ℕ → ℕ → ℕ → BankNote → Effect
@@ -23,3 +33,32 @@ restoring s slot note = then_call (restore slot (restored_image note) ∷ []) no
 
 abbrev pub deleting : State → ℕ → BankNote → Effect
 deleting s slot note = then_call (delete slot ∷ []) note faulted (answered s SUCCESS 0)
+
+-- ---- which block it is
+
+-- the application has a block of its own in this slot, of this size
+abbrev pub FindsOwn : State → ℕ → ℕ → ℕ → Type 0
+FindsOwn s app slot size = (effect : Stored → Effect) → (b : Stored) × (b.block.size ≡ size) × (if_block s app slot effect ≡ effect b)
+
+-- it has none, and is answered so
+abbrev pub Misses : State → ℕ → ℕ → Status → Type 0
+Misses s app slot status = (effect : Stored → Effect) → if_block s app slot effect ≡ answered s status 0
+
+-- ---- what holds before a block is made
+
+-- a block can have this name and size
+pub record CanReserve (name : List ℕ) (size : ℕ) : Type 0 where
+  pub named : is_name name ≡ true
+  pub some_bytes : 1 ≤ size
+  pub within : size ≤ 16384
+
+-- the open block of this name is in this slot, and there is room for one of this size in its place
+pub record CanRenew {B : Type 0} (g : Ghosts B) (store : StoreParts B) (kind : BlockKind) (name : List ℕ) (size slot : ℕ) : Type 0 where
+  pub open_block : open_slot kind name store.slots ≡ Some slot
+  pub room : (blocks : Blocks) → StandsFor g.tells g.now store blocks → has_room size (Some slot) blocks ≡ true
+
+-- there is room for an image of this size, which is restored
+pub record CanGive (size : ℕ) (room : GiveRoom) : Type 0 where
+  pub note : CanKeep size room.note
+  pub empty : room.reply.list ≡ []
+  pub spare : size ≤ room.reply.spare

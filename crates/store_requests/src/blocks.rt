@@ -1,48 +1,37 @@
 //! Blocks of the Critical Data Store: how one is registered, and how one is deleted.
 
-ghost use Rattle.std.specs.Prelude.{◌≡◌, ◌==◌, ◌<◌, ◌≤◌, ℕ, List, true, false, [], None, Some, IsSome, IfOk, OnErr};
-ghost use Rattle.tbl_kinds.specs.Names.{is_name};
+ghost use Rattle.std.specs.Prelude.{◌≡◌, ◌<◌, true, [], None, Some, IsSome};
 ghost use Rattle.tbl_kinds.specs.Blocks.{Store as Blocks};
-ghost use Rattle.tbl_kinds.specs.Notes.{untouched};
-ghost use Rattle.tbl_kinds.specs.StoreSteps.{stored_at, open_of, has_room};
+ghost use Rattle.tbl_kinds.specs.StoreSteps.{stored_at, open_of};
 ghost use Rattle.tbl_kinds.specs.declared.block.BlockKind.TheVariants as kind;
-ghost use Rattle.tbl_model.specs.State.{State};
 ghost use Rattle.tbl_model.specs.AppBlocks.{has_size, block_effect, cds_register_effect};
+ghost use Rattle.sharing.specs.Apps.{app_name};
 ghost use Rattle.cds_store.specs.Slots.{open_slot};
 ghost use Rattle.cds_store.specs.Sound.{slot_at};
 ghost use Rattle.cds_store.specs.StoreBlocks.{StandsFor};
-ghost use Rattle.cds_layout.specs.Order.{delete_calls};
-ghost use Rattle.store_requests.specs.BankCalls.{AsksBy, make_at, renew_at, register_at};
-ghost use Rattle.std.specs.Option.{ForSome, option_map};
-ghost use Rattle.tbl_model.specs.Applications.{full_name};
-ghost use Rattle.sharing.specs.Apps.{app_name};
-ghost use Rattle.store_requests.specs.OwnBlocks.{renewing, deleting};
-ghost use Rattle.store_requests.specs.Called.{Calls, IsCall, IsSilent, IsTold, reserve_note, reserve_status, reserve_detail};
+ghost use Rattle.store_requests.specs.BankCalls.{asks_delete, asks_make, asks_renew, asks_register, asks_register_for};
+ghost use Rattle.store_requests.specs.OwnBlocks.{CanReserve, CanRenew, renewing, deleting};
+ghost use Rattle.store_requests.specs.Called.{IsFresh, IsTold, reserve_note, reserve_status, reserve_detail};
+ghost use Rattle.store_requests.specs.Requests.{Served, MadeAsking, alone, at_desk};
 
-use crate::notes::{broken, called, done, note_done, note_room, noted};
+use crate::effect::Effect;
+use crate::notes::{broken, called, done, note_done, note_room};
 use cds_store::{ReserveFault, Store};
-use request_effects::Effect;
-use sharing::{Apps, plan_name};
+use desk::Desk;
+use sharing::plan_name;
 use std::alloc::Global;
-use tbl_kinds::{Answer, BlockKind, Bytes, Memory, Name16, Name40, Outside, Status};
-use tbl_outside::Bank;
+use tbl_kinds::{Answer, BlockKind, Memory, Name16, Name40, Note, Outside, Status};
+use tbl_outside::{Bank, Validator};
 
 /// The largest image of a block, that of a table (`CFE_PLATFORM_TBL_MAX_SNGL_TABLE_SIZE`), in bytes.
 const BLOCK_LIMIT: u32 = 16_384;
 
-/// An answer that calls nothing.
-pub(crate) fn plain(status: Status, detail: u32, empty: Bytes) -> Effect
-    ensures { IsTold result status detail empty.list untouched }
-{
-    Effect::of(Answer { status, detail }, empty)
-}
-
 // ---- a block is registered
 
 /// How a reservation went, which is the last call of its request.
-fn reserved(made: Result<u8, ReserveFault>, empty: Bytes, note: Box<Outside>) -> Effect
+fn reserved(made: Result<u8, ReserveFault>, note: Box<Outside>) -> Effect
     requires { note.value.note.done < 255 }
-    ensures { IsTold result (reserve_status made) (reserve_detail made) empty.list (reserve_note made note.value.note) }
+    ensures { IsTold result (reserve_status made) (reserve_detail made) [] (reserve_note made note.value.note) }
 {
     match made {
         Ok(slot) => {
@@ -50,10 +39,12 @@ fn reserved(made: Result<u8, ReserveFault>, empty: Bytes, note: Box<Outside>) ->
                 status: Status::SUCCESS,
                 detail: u32::from(slot),
             };
-            done(answer, empty, note)
+            done(answer, note)
         }
-        Err(ReserveFault::Bank(fault)) => broken(fault, empty, note),
-        Err(ReserveFault::NoRoom) => noted(Answer::plain(Status::ERR_CDS_NO_ROOM), empty, note),
+        Err(ReserveFault::Bank(fault)) => broken(fault, note),
+        Err(ReserveFault::NoRoom) => {
+            Effect::noted(Answer::plain(Status::ERR_CDS_NO_ROOM), Note::of(note))
+        }
     }
 }
 
@@ -64,31 +55,21 @@ fn renew<B: Bank>(
     old: u8,
     name: &Name40,
     size: u32,
-    empty: Bytes,
     mut note: Box<Outside>,
 ) -> Effect
     requires booted { store.old.booted ≡ true }
-    requires named { is_name name.now ≡ true }
-    requires some { 1 ≤ size }
-    requires within { size ≤ 16384 }
-    requires open_block { open_slot kind.App name.now store.old.slots ≡ Some old }
-    requires taken { IsSome (slot_at store.old.slots old) }
-    requires room { (blocks : Blocks) → StandsFor B.tells B.now store.old blocks → has_room size (Some old) blocks ≡ true }
-    requires empty { empty.list ≡ [] }
-    requires untouched { note.value.note ≡ untouched }
-    ensures effect { B.tells → (s : State) → StandsFor B.tells B.now store.old s.store
-        → Calls B.Bank store.old store.new s result (renewing s name.now size old) }
-    ensures call { IsCall B.Bank store.old store.new result }
-    ensures bank_calls { (blocks : Blocks) → StandsFor B.tells B.now store.old blocks
-        → ForSome (renew_at store.old.slots old name.now size) (AsksBy B.Bank store.old.bank store.new.bank result.note.outcome) }
+    requires can { CanReserve name.now size }
+    requires renewable { CanRenew B.Bank store.old kind.App name.now size old }
+    requires fresh { IsFresh note }
+    ensures served { MadeAsking B.Bank (alone store.old) (alone store.new) (λ s. renewing s name.now size old) (asks_renew old name.now size) result }
 {
     match store.delete_block(old) {
         Ok(()) => {
             note_done(&mut note);
             let made = store.reserve_block(BlockKind::App, name, size);
-            reserved(made, empty, note)
+            reserved(made, note)
         }
-        Err(fault) => broken(fault, empty, note),
+        Err(fault) => broken(fault, note),
     }
 }
 
@@ -108,23 +89,14 @@ fn register_block<B: Bank>(
     store: &mut Store<B>,
     name: &Name40,
     size: u32,
-    empty: Bytes,
 ) -> Result<Effect, Memory>
     requires booted { store.old.booted ≡ true }
-    requires named { is_name name.now ≡ true }
-    requires some { 1 ≤ size }
-    requires within { size ≤ 16384 }
-    requires empty { empty.list ≡ [] }
-    ensures effect { IfOk result (λ done. B.tells → (s : State) → StandsFor B.tells B.now store.old s.store
-        → Calls B.Bank store.old store.new s done (λ n. block_effect s name.now size n (open_of kind.App name.now s.store))) }
-    ensures call { IfOk result (IsCall B.Bank store.old store.new) }
-    ensures bank_calls { IfOk result (λ done. (blocks : Blocks) → StandsFor B.tells B.now store.old blocks
-        → ForSome (register_at (open_slot kind.App name.now store.old.slots) store.old.slots name.now size) (AsksBy B.Bank store.old.bank store.new.bank done.note.outcome)) }
-    ensures err { OnErr result (store.new ≡ store.old) }
+    requires can { CanReserve name.now size }
+    ensures served { Served B.Bank (alone store.old) (alone store.new) (λ s n. block_effect s name.now size n (open_of kind.App name.now s.store)) (asks_register name.now size) result }
 {
     match store.find(BlockKind::App, name) {
-        Some(slot) => register_again(alloc, store, slot, name, size, empty),
-        None => register_new(alloc, store, name, size, empty),
+        Some(slot) => register_again(alloc, store, slot, name, size),
+        None => register_new(alloc, store, name, size),
     }
 }
 
@@ -135,30 +107,25 @@ fn register_again<B: Bank>(
     slot: u8,
     name: &Name40,
     size: u32,
-    empty: Bytes,
 ) -> Result<Effect, Memory>
     requires booted { store.old.booted ≡ true }
-    requires named { is_name name.now ≡ true }
-    requires some { 1 ≤ size }
-    requires within { size ≤ 16384 }
+    requires can { CanReserve name.now size }
     requires open_block { open_slot kind.App name.now store.old.slots ≡ Some slot }
     requires slot { slot < 128 }
-    requires empty { empty.list ≡ [] }
-    ensures effect { IfOk result (λ done. B.tells → (s : State) → StandsFor B.tells B.now store.old s.store
-        → Calls B.Bank store.old store.new s done (λ n. block_effect s name.now size n (Some slot))) }
-    ensures call { IfOk result (IsCall B.Bank store.old store.new) }
-    ensures bank_calls { IfOk result (λ done. (blocks : Blocks) → StandsFor B.tells B.now store.old blocks
-        → ForSome (renew_at store.old.slots slot name.now size) (AsksBy B.Bank store.old.bank store.new.bank done.note.outcome)) }
-    ensures err { OnErr result (store.new ≡ store.old) }
+    ensures served { Served B.Bank (alone store.old) (alone store.new) (λ s n. block_effect s name.now size n (Some slot)) (asks_renew slot name.now size) result }
 {
     if has_size(store, slot, size) {
-        return Ok(plain(Status::INFO_CDS_EXISTS, u32::from(slot), empty));
+        let answer = Answer {
+            status: Status::INFO_CDS_EXISTS,
+            detail: u32::from(slot),
+        };
+        return Ok(Effect::of(answer));
     }
     if !store.room(size, Some(slot)) {
-        return Ok(plain(Status::ERR_CDS_NO_ROOM, 0, empty));
+        return Ok(Effect::plain(Status::ERR_CDS_NO_ROOM));
     }
     let note = note_room(alloc)?;
-    Ok(renew(store, slot, name, size, empty, note))
+    Ok(renew(store, slot, name, size, note))
 }
 
 /// Registers a block of this full name that has no open one.
@@ -167,56 +134,39 @@ fn register_new<B: Bank>(
     store: &mut Store<B>,
     name: &Name40,
     size: u32,
-    empty: Bytes,
 ) -> Result<Effect, Memory>
     requires booted { store.old.booted ≡ true }
-    requires named { is_name name.now ≡ true }
-    requires some { 1 ≤ size }
-    requires within { size ≤ 16384 }
+    requires can { CanReserve name.now size }
     requires none_open { open_slot kind.App name.now store.old.slots ≡ None }
-    requires empty { empty.list ≡ [] }
-    ensures effect { IfOk result (λ done. B.tells → (s : State) → StandsFor B.tells B.now store.old s.store
-        → Calls B.Bank store.old store.new s done (λ n. block_effect s name.now size n None)) }
-    ensures call { IfOk result (IsCall B.Bank store.old store.new) }
-    ensures bank_calls { IfOk result (λ done. ForSome (make_at kind.App store.old.slots name.now size) (AsksBy B.Bank store.old.bank store.new.bank done.note.outcome)) }
-    ensures err { OnErr result (store.new ≡ store.old) }
+    ensures served { Served B.Bank (alone store.old) (alone store.new) (λ s n. block_effect s name.now size n None) (asks_make name.now size) result }
 {
     let note = note_room(alloc)?;
     let made = store.reserve_block(BlockKind::App, name, size);
-    Ok(reserved(made, empty, note))
+    Ok(reserved(made, note))
 }
 
 /// An application registers a block of its own (`CFE_ES_RegisterCDS`).
-pub fn cds_register<B: Bank>(
-    alloc: Global,
+pub fn cds_register<B: Bank, C: Validator>(
+    desk: &Desk<C>,
     store: &mut Store<B>,
-    apps: &Apps,
     app: u8,
     short: &Name16,
     size: u32,
-    empty: Bytes,
 ) -> Result<Effect, Memory>
     requires booted { store.old.booted ≡ true }
-    requires empty { empty.list ≡ [] }
-    ensures effect { IfOk result (λ done. B.tells → (s : State) → s.apps ≡ apps.now → StandsFor B.tells B.now store.old s.store
-        → Calls B.Bank store.old store.new s done (cds_register_effect s app short.now size)) }
-    ensures call { IfOk result (IsCall B.Bank store.old store.new) }
-    // The bank got the calls that its calls of the store make, and no others.
-    ensures bank_calls { IfOk result (λ done. (name : List ℕ) → option_map (λ own. full_name own short.now) (app_name apps.now app) ≡ Some name
-        → (blocks : Blocks) → StandsFor B.tells B.now store.old blocks
-        → ForSome (register_at (open_slot kind.App name store.old.slots) store.old.slots name size) (AsksBy B.Bank store.old.bank store.new.bank done.note.outcome)) }
-    ensures err { OnErr result (store.new ≡ store.old) }
+    ensures served { Served B.Bank (at_desk desk.now store.old) (at_desk desk.now store.new) (λ s. cds_register_effect s app short.now size)
+        (asks_register_for (app_name desk.now.apps app) short.now size) result }
 {
-    let Some(name) = plan_name(apps, app, short) else {
-        return Ok(plain(Status::ERR_BAD_APP, 0, empty));
+    let Some(name) = plan_name(&desk.apps, app, short) else {
+        return Ok(Effect::plain(Status::ERR_BAD_APP));
     };
     if !short.is_name() {
-        return Ok(plain(Status::ERR_INVALID_NAME, 0, empty));
+        return Ok(Effect::plain(Status::ERR_INVALID_NAME));
     }
     if size == 0 || BLOCK_LIMIT < size {
-        return Ok(plain(Status::ERR_INVALID_SIZE, 0, empty));
+        return Ok(Effect::plain(Status::ERR_INVALID_SIZE));
     }
-    register_block(alloc, store, &name, size, empty)
+    register_block(desk.alloc, store, &name, size)
 }
 
 // ---- a block is deleted
@@ -226,19 +176,12 @@ pub(crate) fn delete<B: Bank>(
     alloc: Global,
     store: &mut Store<B>,
     slot: u8,
-    empty: Bytes,
 ) -> Result<Effect, Memory>
     requires booted { store.old.booted ≡ true }
     requires taken { IsSome (slot_at store.old.slots slot) }
-    requires empty { empty.list ≡ [] }
-    ensures effect { IfOk result (λ done. B.tells → (s : State) → StandsFor B.tells B.now store.old s.store
-        → Calls B.Bank store.old store.new s done (deleting s slot)) }
-    ensures call { IfOk result (IsCall B.Bank store.old store.new) }
-    ensures bank_calls { IfOk result (λ done. AsksBy B.Bank store.old.bank store.new.bank done.note.outcome (delete_calls slot)) }
-    ensures silent { IfOk result IsSilent }
-    ensures err { OnErr result (store.new ≡ store.old) }
+    ensures served { Served B.Bank (alone store.old) (alone store.new) (λ s. deleting s slot) (asks_delete slot) result }
 {
     let note = note_room(alloc)?;
     let ended = store.delete_block(slot);
-    Ok(called(ended, empty, note))
+    Ok(called(ended, note))
 }

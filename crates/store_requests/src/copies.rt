@@ -1,16 +1,13 @@
 //! Images of critical tables that go active, which are copied into their blocks.
 
-ghost use Rattle.std.specs.Prelude.{◌≡◌, ◌-◌, ◌≤◌, length, true, Some, Err, IfOk, IfSome, slice_get, if◌then◌else◌};
-ghost use Rattle.tbl_kinds.specs.Buffers.{Buffer};
+ghost use Rattle.std.specs.Prelude.{◌≡◌, ◌-◌, ◌≤◌, length, true, Some, Err, OnOk, slice_get};
 ghost use Rattle.tbl_kinds.specs.Notes.{untouched};
 ghost use Rattle.tbl_model.specs.State.{Table};
-ghost use Rattle.tbl_model.specs.Tables.{table_at, is_critical as is_marked, is_critical_in};
-ghost use Rattle.tbl_model.specs.Effects.{Effect as Model};
+ghost use Rattle.tbl_model.specs.Tables.{table_at, is_critical_in};
 ghost use Rattle.tbl_model.specs.Copies.{is_activation, block_of, copied_to, then_copy};
-ghost use Rattle.cds_store.specs.StoreBlocks.{StandsFor};
-ghost use Rattle.store_requests.specs.Called.{CallsAfter, broken_note, done_first};
-ghost use Rattle.store_requests.specs.Copying.{IsCopied, IsCopyCall};
-ghost use Rattle.request_effects.specs.Effects.{IsEffect, HasRoom, told_effect, reported_effect};
+ghost use Rattle.desk.specs.Rooms.{copy_room as room_for_copy};
+ghost use Rattle.store_requests.specs.Called.{broken_note};
+ghost use Rattle.store_requests.specs.Copying.{IsCopied, Copied, KeepsRoom, told_in};
 
 use crate::notes::{note_broken, note_room};
 use crate::table_blocks::sized_block;
@@ -20,7 +17,7 @@ use check_word::Checked;
 use request_effects::Report;
 use std::alloc::Global;
 use std::marker::Model;
-use tbl_kinds::{Answer, Bytes, Memory, Name40, Note, Options, Outside, Status};
+use tbl_kinds::{Memory, Name40, Note, Options, Outside, Reply, Status};
 use tbl_model::TelemetryEvent;
 use tbl_outside::Bank;
 use tbl_registry::Tables;
@@ -33,7 +30,7 @@ pub struct CopyRoom {
 
 impl Model for CopyRoom {
     ghost use Rattle.std.specs.Prelude.{Bool, is_some, IfSome};
-    ghost use Rattle.store_requests.specs.Copying.{IsFresh};
+    ghost use Rattle.store_requests.specs.Called.{IsFresh};
 
     ghost Value = { Bool };
 
@@ -49,26 +46,25 @@ impl CopyRoom {
     }
 }
 
-/// Whether the table of a row is critical. Then what its copy may need of memory is there after this: it is taken before anything
-/// changes, since an image that went active stays active, so running out of memory after that couldn't be answered.
-pub fn copy_room(
-    alloc: Global,
-    tables: &Tables,
-    row: u8,
-    room: &mut CopyRoom,
-) -> Result<bool, Memory>
-    ensures critical { IfOk result (λ is_critical. is_critical ≡ is_critical_in (table_at tables.now row)) }
-    ensures room { IfOk result (λ is_critical. is_critical ≡ true → room.new ≡ true) }
+/// Whether the table of a row is critical.
+fn is_critical(tables: &Tables, row: u8) -> bool
+    ensures { result ≡ is_critical_in (table_at tables.now row) }
 {
     match tables.row(row) {
-        Some(table) if table.flags.contains(Options::CRITICAL) => {
-            if room.outside.is_none() {
-                room.outside = Some(note_room(alloc)?);
-            }
-            Ok(true)
-        }
-        _ => Ok(false),
+        Some(table) => table.flags.contains(Options::CRITICAL),
+        None => false,
     }
+}
+
+/// If the table of a row is critical, what its copy may need of memory is there after this: it is taken before anything changes, since an
+/// image that went active stays active, so running out of memory after that couldn't be answered.
+pub fn copy_room(alloc: Global, tables: &Tables, row: u8, room: &mut CopyRoom) -> Result<(), Memory>
+    ensures room { OnOk result (is_critical_in (table_at tables.now row) ≡ true → room.new ≡ true) }
+{
+    if is_critical(tables, row) && room.outside.is_none() {
+        room.outside = Some(note_room(alloc)?);
+    }
+    Ok(())
 }
 
 /// Whether an image went active: this is the last thing that was done.
@@ -82,27 +78,20 @@ fn went_active(events: &[TelemetryEvent]) -> bool
 
 /// The copy into the block of a slot was broken off. If the bank failed, that is reported after what was done, as the image is active all
 /// the same. If it was stopped, only what was done is reported of the request, since the processor was reset before it could answer.
-fn broken_off(
-    row: u8,
-    slot: u8,
-    fault: BankFault,
-    answer: Answer,
-    bytes: &mut Bytes,
-    report: &mut Report,
-) -> Answer
-    requires { length report.old.events ≤ 3 }
-    ensures { IsCopied row slot (Err fault) (told_effect answer bytes.old.list report.old)
-        (reported_effect result bytes.new.list report.new (broken_note fault untouched)) }
+fn broken_off(row: u8, slot: u8, fault: BankFault, reply: &mut Reply, report: &mut Report)
+    requires few { length report.old.events ≤ 3 }
+    ensures copied { IsCopied row slot (Err fault) (told_in reply.old report.old untouched) (told_in reply.new report.new (broken_note fault untouched)) }
+    ensures packets { reply.new.packets ≡ reply.old.packets }
 {
     match fault {
         BankFault::Fault { .. } => {
             report.add_event(TelemetryEvent::CopyFailed { row, slot });
-            answer
         }
         BankFault::Stopped { .. } => {
-            bytes.clear();
+            reply.status = Status::INFO_STOPPED;
+            reply.detail = 0;
+            reply.bytes.clear();
             report.cut_off();
-            Answer::plain(Status::INFO_STOPPED)
         }
     }
 }
@@ -113,28 +102,23 @@ fn copied(
     slot: u8,
     ended: Result<(), BankFault>,
     room: &mut CopyRoom,
-    answer: Answer,
-    bytes: &mut Bytes,
+    reply: &mut Reply,
     report: &mut Report,
-    note: &mut Note,
-) -> Answer
+) -> Note
     requires room { room.old ≡ true }
     requires few { length report.old.events ≤ 3 }
-    ensures { IsCopied row slot ended (told_effect answer bytes.old.list report.old)
-        (reported_effect result bytes.new.list report.new note.new) }
+    ensures copied { IsCopied row slot ended (told_in reply.old report.old untouched) (told_in reply.new report.new result) }
+    ensures packets { reply.new.packets ≡ reply.old.packets }
 {
     match ended {
-        Ok(()) => {
-            *note = Note::done(1);
-            answer
-        }
+        Ok(()) => Note::done(1),
         Err(fault) => {
             let Some(mut outside) = room.outside.take() else {
                 unreachable!();
             };
             note_broken(&mut outside, fault);
-            *note = Note::of(outside);
-            broken_off(row, slot, fault, answer, bytes, report)
+            broken_off(row, slot, fault, reply, report);
+            Note::of(outside)
         }
     }
 }
@@ -149,70 +133,55 @@ fn copy_image<B: Bank>(
     name: &Name40,
     image: &Checked<'_>,
     room: &mut CopyRoom,
-    answer: Answer,
-    bytes: &mut Bytes,
+    reply: &mut Reply,
     report: &mut Report,
-    note: &mut Note,
-) -> Answer
+) -> Note
     requires booted { store.old.booted ≡ true }
     requires room { room.old ≡ true }
     requires few { length report.old.events ≤ 3 }
-    requires untouched { note.old ≡ untouched }
-    ensures copies { B.tells → (e : Model) (t : Table) → IsEffect (told_effect answer bytes.old.list report.old) e.questions e.next e
-        → t.name ≡ name.now → t.size ≡ length image.now → StandsFor B.tells B.now store.old e.next.store
-        → CallsAfter B.Bank store.old store.new (done_first e) (reported_effect result bytes.new.list report.new note.new)
-        (λ n. copied_to row n e (block_of t e.next.store) (Some image.now)) }
-    ensures call { IsCopyCall B.Bank store.old store.new (told_effect answer bytes.old.list report.old)
-        (reported_effect result bytes.new.list report.new note.new) }
-    ensures room { (packets : Buffer) → HasRoom 24 packets (told_effect answer bytes.old.list report.old)
-        → HasRoom 0 packets (reported_effect result bytes.new.list report.new note.new) }
+    ensures copied { (t : Table) → Copied B.Bank store.old store.new (told_in reply.old report.old untouched) (told_in reply.new report.new result)
+        (λ e. (t.name ≡ name.now) × (t.size ≡ length image.now)) (λ e n. copied_to row n e (block_of t e.next.store) (Some image.now)) }
+    ensures room { KeepsRoom 24 (told_in reply.old report.old untouched) (told_in reply.new report.new result) }
+    ensures packets { reply.new.packets ≡ reply.old.packets }
 {
     let Some(slot) = sized_block(store, name, image.bytes().len()) else {
-        return answer;
+        return Note::untouched();
     };
     let ended = store.copy(slot, image);
-    copied(row, slot, ended, room, answer, bytes, report, note)
+    copied(row, slot, ended, room, reply, report)
 }
 
 /// Copies the image of the table of a row that went active by this request, if one did and the table is critical. The copy comes
-/// last, so that an image is never kept that didn't go active.
+/// last, so that an image is never kept that didn't go active. The note says how it went.
 pub fn then_copy<B: Bank>(
     tables: &mut Tables,
     store: &mut Store<B>,
     row: u8,
-    is_critical: bool,
     room: &mut CopyRoom,
-    answer: Answer,
-    bytes: &mut Bytes,
+    reply: &mut Reply,
     report: &mut Report,
-    note: &mut Note,
-) -> Answer
+) -> Note
     requires booted { store.old.booted ≡ true }
-    requires critical { IfSome (table_at tables.old row) (λ t. is_critical ≡ is_marked t) }
-    requires room { is_critical ≡ true → room.old ≡ true }
+    requires room { is_critical_in (table_at tables.old row) ≡ true → room.old ≡ true }
     requires few { length report.old.events ≤ 3 }
-    requires untouched { note.old ≡ untouched }
-    ensures copies { B.tells → (e : Model) → IsEffect (told_effect answer bytes.old.list report.old) e.questions e.next e
-        → e.next.tables ≡ tables.old → StandsFor B.tells B.now store.old e.next.store
-        → CallsAfter B.Bank store.old store.new (done_first e) (reported_effect result bytes.new.list report.new note.new) (λ n. then_copy row n e) }
-    ensures call { IsCopyCall B.Bank store.old store.new (told_effect answer bytes.old.list report.old)
-        (reported_effect result bytes.new.list report.new note.new) }
-    ensures room { (packets : Buffer) → HasRoom (if is_critical then 24 else 0) packets (told_effect answer bytes.old.list report.old)
-        → HasRoom 0 packets (reported_effect result bytes.new.list report.new note.new) }
+    ensures copied { Copied B.Bank store.old store.new (told_in reply.old report.old untouched) (told_in reply.new report.new result)
+        (λ e. e.next.tables ≡ tables.old) (λ e n. then_copy row n e) }
+    ensures room { KeepsRoom (room_for_copy (table_at tables.old row)) (told_in reply.old report.old untouched) (told_in reply.new report.new result) }
+    ensures packets { reply.new.packets ≡ reply.old.packets }
     ensures same { tables.new ≡ tables.old }
 {
-    if !is_critical {
-        return answer;
-    }
     if !went_active(report.events()) {
-        return answer;
+        return Note::untouched();
+    }
+    if !is_critical(tables, row) {
+        return Note::untouched();
     }
     let _ = tables.keep_check_word(row, true);
     let Some(name) = tables.name(row) else {
-        return answer;
+        return Note::untouched();
     };
     let Some(image) = tables.last_checked(row) else {
-        return answer;
+        return Note::untouched();
     };
-    copy_image(store, row, name, &image, room, answer, bytes, report, note)
+    copy_image(store, row, name, &image, room, reply, report)
 }

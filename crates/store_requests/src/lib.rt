@@ -4,14 +4,18 @@
 
 mod blocks;
 mod copies;
+mod critical;
+mod effect;
+mod entering;
 mod notes;
 mod own_blocks;
-mod registration;
+mod registering;
 mod table_blocks;
 
 pub use blocks::cds_register;
 pub use copies::{CopyRoom, copy_room, then_copy};
-pub use notes::{note_room, noted};
+pub use effect::Effect;
+pub use notes::note_room;
 pub use own_blocks::{cds_copy, cds_delete, cds_restore};
-pub use registration::register;
+pub use registering::{Registration, register};
 pub use table_blocks::delete_cds;

@@ -1,19 +1,18 @@
 //! Notes of how a request's calls of the store went. Their memory is taken before the first call, so that nothing is missing
 //! once the bank was called.
 
-ghost use Rattle.std.specs.Prelude.{◌≡◌, ◌+◌, ◌<◌, IfOk};
+ghost use Rattle.std.specs.Prelude.{◌≡◌, ◌+◌, ◌<◌, [], length, Some, IfOk};
 ghost use Rattle.tbl_kinds.specs.Notes.{untouched};
-ghost use Rattle.tbl_kinds.specs.declared.note.Outcome.TheVariants as went;
-ghost use Rattle.store_requests.specs.Called.{broken_note, broken_status, done_note, call_note, call_status, IsSilent, IsTold};
+ghost use Rattle.store_requests.specs.Called.{broken_note, broken_status, done_note, call_note, call_status, torn_note, IsFresh, IsTold, NotesImage, CanKeep};
 
+use crate::effect::Effect;
 use cds_store::BankFault;
-use request_effects::Effect;
 use std::alloc::Global;
 use tbl_kinds::{Answer, BankNote, Bytes, Memory, Note, Outcome, Outside, Status};
 
 /// Memory for a note, which has no call yet.
 pub fn note_room(alloc: Global) -> Result<Box<Outside>, Memory>
-    ensures { IfOk result (λ note. note.value.note ≡ untouched) }
+    ensures { IfOk result IsFresh }
 {
     let outside = Outside {
         note: BankNote::untouched(),
@@ -22,23 +21,10 @@ pub fn note_room(alloc: Global) -> Result<Box<Outside>, Memory>
     Ok(Box::new(alloc, outside)?)
 }
 
-/// An answer with these bytes and this note.
-pub fn noted(answer: Answer, bytes: Bytes, note: Box<Outside>) -> Effect
-    ensures answer { result.answer ≡ answer }
-    ensures bytes { result.bytes ≡ bytes.list }
-    ensures note { result.note ≡ note.value.note }
-    ensures quiet { IsSilent result }
-{
-    Effect {
-        note: Note::of(note),
-        ..Effect::of(answer, bytes)
-    }
-}
-
 /// One call more is done.
 pub(crate) fn note_done(outside: &mut Outside)
     requires { outside.now.note.done < 255 }
-    ensures { outside.exit.now.note ≡ record outside.entry.now.note { outcome = went.Done; done = outside.entry.now.note.done + 1 } }
+    ensures { outside.exit.now.note ≡ done_note outside.entry.now.note }
 {
     outside.note.outcome = Outcome::Done;
     outside.note.done += 1;
@@ -57,34 +43,79 @@ pub(crate) fn note_broken(outside: &mut Outside, fault: BankFault)
     outside.note.old = old;
 }
 
-/// The last call of a request is done, which is answered so.
-pub(crate) fn done(answer: Answer, bytes: Bytes, mut note: Box<Outside>) -> Effect
-    requires { note.value.note.done < 255 }
-    ensures { IsTold result answer.status answer.detail bytes.list (done_note note.value.note) }
-{
-    note_done(&mut note);
-    noted(answer, bytes, note)
+// ---- a restore, which is the only call of its request
+
+/// Memory for the note of a restore: for the note, and for the image that it may give.
+#[derive(Drop)]
+pub(crate) struct RestoreNote {
+    pub kept: Bytes,
+    pub note: Box<Outside>,
 }
 
-/// The next call of a request broke off. If it was stopped, the service boots after it.
-pub(crate) fn broken(fault: BankFault, empty: Bytes, mut note: Box<Outside>) -> Effect
-    ensures { IsTold result (broken_status fault) 0 empty.list (broken_note fault note.value.note) }
+impl RestoreNote {
+    /// Nothing was restored yet, and there is room for an image of this size.
+    pub(crate) fn make(alloc: Global, size: usize) -> Result<RestoreNote, Memory>
+        ensures { IfOk result (CanKeep size) }
+    {
+        Ok(RestoreNote {
+            kept: Bytes::make(alloc, size)?,
+            note: note_room(alloc)?,
+        })
+    }
+
+    /// It gave this image.
+    pub(crate) fn given(self, image: &[u8]) -> Note
+        requires { CanKeep (length image.now) self }
+        ensures { NotesImage image.now result }
+    {
+        let RestoreNote { mut kept, mut note } = self;
+        kept.append(image);
+        note.note.restored = Some(kept);
+        note_done(&mut note);
+        Note::of(note)
+    }
+}
+
+/// It gave no image: the block is torn, and the note has its check words.
+pub(crate) fn note_torn(mut note: Box<Outside>, words: u32) -> Note
+    requires { IsFresh note }
+    ensures { result ≡ torn_note words }
+{
+    note.note.torn = words;
+    note_done(&mut note);
+    Note::of(note)
+}
+
+// ---- the last call of a request
+
+/// It is done, and the request is answered so.
+pub(crate) fn done(answer: Answer, mut note: Box<Outside>) -> Effect
+    requires { note.value.note.done < 255 }
+    ensures { IsTold result answer.status answer.detail [] (done_note note.value.note) }
+{
+    note_done(&mut note);
+    Effect::noted(answer, Note::of(note))
+}
+
+/// It broke off. If it was stopped, the service boots after it.
+pub(crate) fn broken(fault: BankFault, mut note: Box<Outside>) -> Effect
+    ensures { IsTold result (broken_status fault) 0 [] (broken_note fault note.value.note) }
 {
     note_broken(&mut note, fault);
     let status = match fault {
         BankFault::Fault { .. } => Status::ERR_CDS_FAULT,
         BankFault::Stopped { .. } => Status::INFO_STOPPED,
     };
-    noted(Answer::plain(status), empty, note)
+    Effect::noted(Answer::plain(status), Note::of(note))
 }
 
-/// The last call of a request ended so.
-pub(crate) fn called(ended: Result<(), BankFault>, empty: Bytes, note: Box<Outside>) -> Effect
-    requires { note.value.note.done < 255 }
-    ensures { IsTold result (call_status ended) 0 empty.list (call_note ended note.value.note) }
+/// It was the only one, and ended so.
+pub(crate) fn called(ended: Result<(), BankFault>, note: Box<Outside>) -> Effect
+    requires { IsFresh note }
+    ensures { IsTold result (call_status ended) 0 [] (call_note ended untouched) }
 {
     match ended {
-        Ok(()) => done(Answer::plain(Status::SUCCESS), empty, note),
-        Err(fault) => broken(fault, empty, note),
+        Ok(()) => done(Answer::plain(Status::SUCCESS), note),
+        Err(fault) => broken(fault, note),
     }
 }

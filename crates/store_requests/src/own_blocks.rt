@@ -1,33 +1,27 @@
 //! An application's own blocks of the Critical Data Store: copied into, restored and deleted.
 
-ghost use Rattle.std.specs.Option.{ForSome};
-ghost use Rattle.std.specs.Prelude.{◌≡◌, ◌==◌, Option, ◌<◌, ◌≤◌, is_some, true, false, [], length, None, Some, IfSome, IfOk, IfErr, OnErr};
-ghost use Rattle.tbl_kinds.specs.Blocks.{Stored, Store as Blocks};
-ghost use Rattle.tbl_kinds.specs.Notes.{untouched, restored_image};
-ghost use Rattle.tbl_kinds.specs.StoreSteps.{stored_at};
-ghost use Rattle.tbl_kinds.specs.declared.note.Outcome.TheVariants as went;
+ghost use Rattle.std.specs.Prelude.{◌≡◌, ◌==◌, ◌≤◌, is_some, true, false, [], length, IfSome, IfOk, IfErr};
 ghost use Rattle.tbl_model.specs.State.{State};
 ghost use Rattle.tbl_model.specs.BankCounts.{tells_trouble};
-ghost use Rattle.tbl_model.specs.Effects.{Effect as Model, answered};
-ghost use Rattle.tbl_model.specs.AppBlocks.{is_named_by, if_block, cds_copy_effect, cds_restore_effect, cds_delete_effect};
+ghost use Rattle.tbl_model.specs.AppBlocks.{is_named_by, cds_copy_effect, cds_restore_effect, cds_delete_effect};
 ghost use Rattle.cds_store.specs.Sound.{slot_at, IsOpenOf};
 ghost use Rattle.cds_store.specs.StoreBlocks.{StandsFor};
-ghost use Rattle.tbl_session.specs.Restores.{GaveHeld};
-ghost use Rattle.cds_layout.specs.Order.{delete_calls};
 ghost use Rattle.cds_layout.specs.Restores.{words};
-ghost use Rattle.store_requests.specs.BankCalls.{AsksBy, copy_at, restore_at};
-ghost use Rattle.store_requests.specs.OwnBlocks.{copying, restoring};
-ghost use Rattle.store_requests.specs.Called.{Calls, IsCall, IsTold, IsUngiven, done_note, is_own_slot};
+ghost use Rattle.store_requests.specs.BankCalls.{asks_copy, asks_delete, asks_restore};
+ghost use Rattle.store_requests.specs.OwnBlocks.{FindsOwn, Misses, CanGive, copying, restoring};
+ghost use Rattle.store_requests.specs.Called.{IsFresh, IsGiven, IsTold, IsUngiven, is_own_slot, torn_note};
+ghost use Rattle.store_requests.specs.Requests.{Served, MadeAsking, alone, at_desk};
 
-use crate::blocks::{delete, plain};
-use crate::notes::{broken, called, done, note_room};
+use crate::blocks::delete;
+use crate::effect::Effect;
+use crate::notes::{RestoreNote, broken, called, note_room, note_torn};
 use cds_store::{BankFault, RestoreFault, Store};
 use check_word::Checked;
-use request_effects::Effect;
+use desk::Desk;
 use sharing::Apps;
 use std::alloc::Global;
 use tbl_kinds::{Answer, BlockKind, Bytes, Memory, Name20, Name40, Outside, Status};
-use tbl_outside::Bank;
+use tbl_outside::{Bank, Validator};
 
 /// An application's own block: its slot, and the size of its image.
 #[derive(Clone, Copy)]
@@ -74,10 +68,8 @@ fn own_block<B: Bank>(store: &Store<B>, apps: &Apps, app: u8, slot: u16) -> Resu
     ensures slot { IfOk result (λ own. own.slot ≡ slot) }
     ensures sized { IfOk result (λ own. IsOpenOf own.size (slot_at store.now.slots own.slot)) }
     ensures within { IfOk result (λ own. own.size ≤ 16384) }
-    ensures ok { IfOk result (λ own. (s : State) (effect : Stored → Model) → s.apps ≡ apps.now → StandsFor B.tells B.now store.now s.store
-        → (b : Stored) × (b.block.size ≡ own.size) × (if_block s app slot effect ≡ effect b)) }
-    ensures err { IfErr result (λ status. (s : State) (effect : Stored → Model) → s.apps ≡ apps.now → StandsFor B.tells B.now store.now s.store
-        → if_block s app slot effect ≡ answered s status 0) }
+    ensures ok { IfOk result (λ own. (s : State) → s.apps ≡ apps.now → StandsFor B.tells B.now store.now s.store → FindsOwn s app slot own.size) }
+    ensures err { IfErr result (λ status. (s : State) → s.apps ≡ apps.now → StandsFor B.tells B.now store.now s.store → Misses s app slot status) }
     ensures harmless { IfErr result (λ status. tells_trouble status ≡ false) }
 {
     let Some(app_name) = apps.name(app) else {
@@ -89,208 +81,166 @@ fn own_block<B: Bank>(store: &Store<B>, apps: &Apps, app: u8, slot: u16) -> Resu
     }
 }
 
+// ---- a copy
+
 /// Copies an image into a block.
 fn copy_into<B: Bank>(
     alloc: Global,
     store: &mut Store<B>,
     own: Own,
     image: &[u8],
-    empty: Bytes,
 ) -> Result<Effect, Memory>
     requires booted { store.old.booted ≡ true }
     requires own { IsOpenOf own.size (slot_at store.old.slots own.slot) }
-    requires empty { empty.list ≡ [] }
-    ensures effect { IfOk result (λ done. B.tells → (s : State) → StandsFor B.tells B.now store.old s.store
-        → Calls B.Bank store.old store.new s done (copying s own.slot own.size image.now)) }
-    ensures call { IfOk result (IsCall B.Bank store.old store.new) }
-    ensures bank_calls { IfOk result (λ done. B.tells → AsksBy B.Bank store.old.bank store.new.bank done.note.outcome (copy_at (B.now store.old.bank) store.old.slots own.slot image.now)) }
-    ensures err { OnErr result (store.new ≡ store.old) }
+    ensures served { Served B.Bank (alone store.old) (alone store.new) (λ s. copying s own.slot own.size image.now) (asks_copy own.slot image.now) result }
 {
     if image.len() != own.size as usize {
-        return Ok(plain(Status::ERR_IMAGE_SIZE, 0, empty));
+        return Ok(Effect::plain(Status::ERR_IMAGE_SIZE));
     }
     let note = note_room(alloc)?;
     let ended = store.copy(own.slot, &Checked::of(image));
-    Ok(called(ended, empty, note))
+    Ok(called(ended, note))
 }
 
 /// An application copies an image into a block of its own (`CFE_ES_CopyToCDS`).
-pub fn cds_copy<B: Bank>(
-    alloc: Global,
+pub fn cds_copy<B: Bank, C: Validator>(
+    desk: &Desk<C>,
     store: &mut Store<B>,
-    apps: &Apps,
     app: u8,
     slot: u16,
     image: &[u8],
-    empty: Bytes,
 ) -> Result<Effect, Memory>
     requires booted { store.old.booted ≡ true }
-    requires empty { empty.list ≡ [] }
-    ensures effect { IfOk result (λ done. B.tells → (s : State) → s.apps ≡ apps.now → StandsFor B.tells B.now store.old s.store
-        → Calls B.Bank store.old store.new s done (cds_copy_effect s app slot image.now)) }
-    ensures call { IfOk result (IsCall B.Bank store.old store.new) }
-    // The bank got the calls that this call of the store makes, and no others.
-    ensures bank_calls { IfOk result (λ done. B.tells → AsksBy B.Bank store.old.bank store.new.bank done.note.outcome (copy_at (B.now store.old.bank) store.old.slots slot image.now)) }
-    ensures err { OnErr result (store.new ≡ store.old) }
+    ensures served { Served B.Bank (at_desk desk.now store.old) (at_desk desk.now store.new) (λ s. cds_copy_effect s app slot image.now) (asks_copy slot image.now) result }
 {
-    match own_block(store, apps, app, slot) {
-        Ok(own) => copy_into(alloc, store, own, image, empty),
-        Err(status) => Ok(plain(status, 0, empty)),
+    match own_block(store, &desk.apps, app, slot) {
+        Ok(own) => copy_into(desk.alloc, store, own, image),
+        Err(status) => Ok(Effect::plain(status)),
+    }
+}
+
+// ---- a restore
+
+/// Memory for a restore: for the image, which is the reply, and for the note.
+#[derive(Drop)]
+struct GiveRoom {
+    reply: Bytes,
+    note: RestoreNote,
+}
+
+impl GiveRoom {
+    /// There is room for an image of this size.
+    fn make(alloc: Global, size: usize) -> Result<GiveRoom, Memory>
+        ensures { IfOk result (CanGive size) }
+    {
+        Ok(GiveRoom {
+            reply: Bytes::make(alloc, size)?,
+            note: RestoreNote::make(alloc, size)?,
+        })
     }
 }
 
 /// The image that a block gave is the reply, and the note has it.
-fn given(image: &[u8], mut reply: Bytes, mut kept: Bytes, mut note: Box<Outside>) -> Effect
-    requires reply { length image.now ≤ reply.spare }
-    requires kept { length image.now ≤ kept.spare }
-    requires no_reply { reply.list ≡ [] }
-    requires none_kept { kept.list ≡ [] }
-    requires done { note.value.note.done < 255 }
-    ensures told { IsTold result Status.SUCCESS 0 image.now (record (done_note note.value.note) { restored = result.note.restored }) }
-    ensures restored { restored_image result.note ≡ Some image.now }
+fn given(image: &[u8], room: GiveRoom) -> Effect
+    requires { CanGive (length image.now) room }
+    ensures { IsGiven result image.now }
 {
+    let GiveRoom { mut reply, note } = room;
     reply.append(image);
-    kept.append(image);
-    note.note.restored = Some(kept);
-    done(Answer::plain(Status::SUCCESS), reply, note)
+    Effect {
+        answer: Answer::plain(Status::SUCCESS),
+        bytes: Some(reply),
+        note: note.given(image),
+    }
 }
 
 /// A block that was read gave no image: the note and the answer say so.
-fn torn(words: u32, empty: Bytes, mut note: Box<Outside>) -> Effect
-    requires { note.value.note.done < 255 }
-    ensures { IsTold result Status.ERR_CDS_TORN words empty.list (record (done_note note.value.note) { torn = words }) }
+fn torn(words: u32, note: Box<Outside>) -> Effect
+    requires { IsFresh note }
+    ensures { IsTold result Status.ERR_CDS_TORN words [] (torn_note words) }
 {
-    note.note.torn = words;
     let answer = Answer {
         status: Status::ERR_CDS_TORN,
         detail: words,
     };
-    done(answer, empty, note)
+    Effect::noted(answer, note_torn(note, words))
 }
 
 /// A block gave no image: either it was read and has none, or the bank failed.
-fn not_given(fault: RestoreFault, empty: Bytes, note: Box<Outside>) -> Effect
-    requires { note.value.note.done < 255 }
-    ensures { IsUngiven result (words fault) empty.list note.value.note }
+fn not_given(fault: RestoreFault, note: Box<Outside>) -> Effect
+    requires { IsFresh note }
+    ensures { IsUngiven result (words fault) }
 {
     match fault.words() {
-        Some(words) => torn(words, empty, note),
+        Some(words) => torn(words, note),
         None => {
             let fault = BankFault::Fault {
                 gate: false,
                 old: false,
             };
-            broken(fault, empty, note)
+            broken(fault, note)
         }
     }
 }
 
 /// Restores the image of a block into this memory, whose length it has.
-fn restore_into<B: Bank>(
-    store: &mut Store<B>,
-    slot: u8,
-    image: &mut [u8],
-    reply: Bytes,
-    kept: Bytes,
-    empty: Bytes,
-    note: Box<Outside>,
-) -> Effect
+fn restore_into<B: Bank>(store: &mut Store<B>, slot: u8, image: &mut [u8], room: GiveRoom) -> Effect
     requires booted { store.old.booted ≡ true }
     requires own { IsOpenOf (length image.old) (slot_at store.old.slots slot) }
     requires within { length image.old ≤ 16384 }
-    requires reply { length image.old ≤ reply.spare }
-    requires kept { length image.old ≤ kept.spare }
-    requires no_reply { reply.list ≡ [] }
-    requires none_kept { kept.list ≡ [] }
-    requires empty { empty.list ≡ [] }
-    requires untouched { note.value.note ≡ untouched }
-    ensures effect { B.tells → (s : State) → StandsFor B.tells B.now store.old s.store
-        → Calls B.Bank store.old store.new s result (restoring s slot) }
-    ensures call { IsCall B.Bank store.old store.new result }
-    ensures bank_calls { B.tells → AsksBy B.Bank store.old.bank store.new.bank result.note.outcome (restore_at (B.now store.old.bank) store.old.slots slot) }
-    ensures gave { B.tells → (blocks : Blocks) → StandsFor B.tells B.now store.old blocks → result.note.outcome ≡ went.Done
-        → ForSome (stored_at blocks slot) (λ b. GaveHeld (B.now store.old.bank) slot b.block result.note) }
+    requires room { CanGive (length image.old) room }
+    ensures served { MadeAsking B.Bank (alone store.old) (alone store.new) (λ s. restoring s slot) (asks_restore slot) result }
 {
     match store.restore(slot, image) {
-        Ok(()) => given(image, reply, kept, note),
-        Err(fault) => not_given(fault, empty, note),
+        Ok(()) => given(image, room),
+        Err(fault) => {
+            let note = room.note;
+            not_given(fault, note.note)
+        }
     }
 }
 
 /// Restores the image of a block. All memory is taken before, since a read of the bank that failed has to be reported.
-fn restore_from<B: Bank>(
-    alloc: Global,
-    store: &mut Store<B>,
-    own: Own,
-    empty: Bytes,
-) -> Result<Effect, Memory>
+fn restore_from<B: Bank>(alloc: Global, store: &mut Store<B>, own: Own) -> Result<Effect, Memory>
     requires booted { store.old.booted ≡ true }
     requires own { IsOpenOf own.size (slot_at store.old.slots own.slot) }
     requires within { own.size ≤ 16384 }
-    requires empty { empty.list ≡ [] }
-    ensures effect { IfOk result (λ done. B.tells → (s : State) → StandsFor B.tells B.now store.old s.store
-        → Calls B.Bank store.old store.new s done (restoring s own.slot)) }
-    ensures call { IfOk result (IsCall B.Bank store.old store.new) }
-    ensures bank_calls { IfOk result (λ done. B.tells → AsksBy B.Bank store.old.bank store.new.bank done.note.outcome (restore_at (B.now store.old.bank) store.old.slots own.slot)) }
-    ensures gave { IfOk result (λ done. B.tells → (blocks : Blocks) → StandsFor B.tells B.now store.old blocks → done.note.outcome ≡ went.Done
-        → ForSome (stored_at blocks own.slot) (λ b. GaveHeld (B.now store.old.bank) own.slot b.block done.note)) }
-    ensures err { OnErr result (store.new ≡ store.old) }
+    ensures served { Served B.Bank (alone store.old) (alone store.new) (λ s. restoring s own.slot) (asks_restore own.slot) result }
 {
     let size = own.size as usize;
     let mut image = vec![in alloc; 0; size]?;
-    let reply = Bytes::make(alloc, size)?;
-    let kept = Bytes::make(alloc, size)?;
-    let note = note_room(alloc)?;
-    Ok(restore_into(store, own.slot, &mut image, reply, kept, empty, note))
+    let room = GiveRoom::make(alloc, size)?;
+    Ok(restore_into(store, own.slot, &mut image, room))
 }
 
 /// An application restores the image of a block of its own (`CFE_ES_RestoreFromCDS`).
-pub fn cds_restore<B: Bank>(
-    alloc: Global,
+pub fn cds_restore<B: Bank, C: Validator>(
+    desk: &Desk<C>,
     store: &mut Store<B>,
-    apps: &Apps,
     app: u8,
     slot: u16,
-    empty: Bytes,
 ) -> Result<Effect, Memory>
     requires booted { store.old.booted ≡ true }
-    requires empty { empty.list ≡ [] }
-    ensures effect { IfOk result (λ done. B.tells → (s : State) → s.apps ≡ apps.now → StandsFor B.tells B.now store.old s.store
-        → Calls B.Bank store.old store.new s done (cds_restore_effect s app slot)) }
-    ensures call { IfOk result (IsCall B.Bank store.old store.new) }
-    // The bank got the calls that this call of the store makes, and no others.
-    ensures bank_calls { IfOk result (λ done. B.tells → AsksBy B.Bank store.old.bank store.new.bank done.note.outcome (restore_at (B.now store.old.bank) store.old.slots slot)) }
-    // What it gave is what the block held in the bank as the call began.
-    ensures gave { IfOk result (λ done. B.tells → (blocks : Blocks) → StandsFor B.tells B.now store.old blocks → done.note.outcome ≡ went.Done
-        → ForSome (stored_at blocks slot) (λ b. GaveHeld (B.now store.old.bank) slot b.block done.note)) }
-    ensures err { OnErr result (store.new ≡ store.old) }
+    ensures served { Served B.Bank (at_desk desk.now store.old) (at_desk desk.now store.new) (λ s. cds_restore_effect s app slot) (asks_restore slot) result }
 {
-    match own_block(store, apps, app, slot) {
-        Ok(own) => restore_from(alloc, store, own, empty),
-        Err(status) => Ok(plain(status, 0, empty)),
+    match own_block(store, &desk.apps, app, slot) {
+        Ok(own) => restore_from(desk.alloc, store, own),
+        Err(status) => Ok(Effect::plain(status)),
     }
 }
 
 /// An application deletes a block of its own (`CFE_ES_DeleteCDS`).
-pub fn cds_delete<B: Bank>(
-    alloc: Global,
+pub fn cds_delete<B: Bank, C: Validator>(
+    desk: &Desk<C>,
     store: &mut Store<B>,
-    apps: &Apps,
     app: u8,
     slot: u16,
-    empty: Bytes,
 ) -> Result<Effect, Memory>
     requires booted { store.old.booted ≡ true }
-    requires empty { empty.list ≡ [] }
-    ensures effect { IfOk result (λ done. B.tells → (s : State) → s.apps ≡ apps.now → StandsFor B.tells B.now store.old s.store
-        → Calls B.Bank store.old store.new s done (cds_delete_effect s app slot)) }
-    ensures call { IfOk result (IsCall B.Bank store.old store.new) }
-    // The bank got the calls that this call of the store makes, and no others.
-    ensures bank_calls { IfOk result (λ done. AsksBy B.Bank store.old.bank store.new.bank done.note.outcome (delete_calls slot)) }
-    ensures err { OnErr result (store.new ≡ store.old) }
+    ensures served { Served B.Bank (at_desk desk.now store.old) (at_desk desk.now store.new) (λ s. cds_delete_effect s app slot) (asks_delete slot) result }
 {
-    match own_block(store, apps, app, slot) {
-        Ok(own) => delete(alloc, store, own.slot, empty),
-        Err(status) => Ok(plain(status, 0, empty)),
+    match own_block(store, &desk.apps, app, slot) {
+        Ok(own) => delete(desk.alloc, store, own.slot),
+        Err(status) => Ok(Effect::plain(status)),
     }
 }

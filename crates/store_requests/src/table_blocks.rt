@@ -1,29 +1,29 @@
 //! The block of a table in the Critical Data Store: found, and deleted by the ground.
 
-ghost use Rattle.std.specs.Prelude.{◌≡◌, ◌==◌, ℕ, Option, ◌<◌, is_some, true, [], None, Some, IsSome, IfSome, IfOk, OnErr};
+ghost use Rattle.std.specs.Prelude.{◌≡◌, ◌==◌, ℕ, Option, is_some, true, Some, IsSome, IfSome, IfOk, OnErr};
+ghost use Rattle.std.specs.Option.{option_or};
 ghost use Rattle.tbl_kinds.specs.Blocks.{Store as Blocks};
 ghost use Rattle.tbl_kinds.specs.declared.block.BlockKind.TheVariants as kind;
-ghost use Rattle.tbl_model.specs.State.{State, Table};
+ghost use Rattle.tbl_model.specs.State.{Table};
 ghost use Rattle.tbl_model.specs.Copies.{block_of};
 ghost use Rattle.tbl_model.specs.AppBlocks.{any_of, delete_table_block, delete_cds_effect};
 ghost use Rattle.cds_store.specs.Sound.{slot_at, IsOpenOf};
 ghost use Rattle.cds_store.specs.StoreBlocks.{StandsFor};
-ghost use Rattle.std.specs.Option.{option_or};
 ghost use Rattle.cds_store.specs.Slots.{open_slot, doubtful_slot};
-ghost use Rattle.store_requests.specs.BankCalls.{AsksBy, delete_named};
+ghost use Rattle.store_requests.specs.BankCalls.{asks_delete_named};
+ghost use Rattle.store_requests.specs.Requests.{Served, Made, alone, at_desk};
 ghost use Rattle.request_effects.specs.Reports.{nothing_reported};
 ghost use Rattle.request_effects.specs.Effects.{reported_effect};
-ghost use Rattle.store_requests.specs.Called.{Calls, IsCall, IsSilent};
 
-use crate::blocks::{delete, plain};
-use crate::notes::done;
+use crate::blocks::delete;
+use crate::effect::Effect;
 use cds_store::Store;
-use request_effects::{Effect, Report, subject};
+use desk::Desk;
+use request_effects::{Report, subject};
 use std::alloc::Global;
-use tbl_kinds::{BlockKind, Bytes, Memory, Name40, Status};
+use tbl_kinds::{BlockKind, Memory, Name40, Status};
 use tbl_model::Named;
-use tbl_outside::Bank;
-use tbl_registry::Tables;
+use tbl_outside::{Bank, Validator};
 
 /// The block of a table of this name, open or in doubt.
 pub(crate) fn table_block<B: Bank>(store: &Store<B>, name: &Name40) -> Option<u8>
@@ -57,21 +57,15 @@ fn delete_table_block<B: Bank>(
     store: &mut Store<B>,
     name: &Name40,
     is_registered: bool,
-    empty: Bytes,
 ) -> Result<Effect, Memory>
     requires booted { store.old.booted ≡ true }
-    requires empty { empty.list ≡ [] }
-    ensures effect { IfOk result (λ done. B.tells → (s : State) (row : Option ℕ) → is_some row ≡ is_registered → StandsFor B.tells B.now store.old s.store
-        → Calls B.Bank store.old store.new s done (λ n. delete_table_block s n (any_of kind.Table name.now s.store) row)) }
-    ensures call { IfOk result (IsCall B.Bank store.old store.new) }
-    ensures bank_calls { IfOk result (λ done. AsksBy B.Bank store.old.bank store.new.bank done.note.outcome (delete_named store.old.slots name.now)) }
-    ensures silent { IfOk result IsSilent }
-    ensures err { OnErr result (store.new ≡ store.old) }
+    ensures served { (row : Option ℕ) → is_some row ≡ is_registered
+        → Served B.Bank (alone store.old) (alone store.new) (λ s n. delete_table_block s n (any_of kind.Table name.now s.store) row) (asks_delete_named name.now) result }
 {
     match table_block(store, name) {
-        None => Ok(plain(Status::ERR_CDS_NOT_FOUND, 0, empty)),
-        Some(_) if is_registered => Ok(plain(Status::ERR_TABLE_ACTIVE, 0, empty)),
-        Some(slot) => delete(alloc, store, slot, empty),
+        None => Ok(Effect::plain(Status::ERR_CDS_NOT_FOUND)),
+        Some(_) if is_registered => Ok(Effect::plain(Status::ERR_TABLE_ACTIVE)),
+        Some(slot) => delete(alloc, store, slot),
     }
 }
 
@@ -92,25 +86,21 @@ fn tell_table(report: &mut Report, table: Option<Named>) -> bool
 
 /// The ground deletes the block of a table that isn't registered (`CFE_TBL_DELETE_CDS_CC`).
 #[inline(never)]
-pub fn delete_cds<B: Bank>(
-    alloc: Global,
-    tables: &Tables,
+pub fn delete_cds<B: Bank, C: Validator>(
+    desk: &Desk<C>,
     store: &mut Store<B>,
-    name: &Name40,
-    empty: Bytes,
     report: &mut Report,
+    name: &Name40,
 ) -> Result<Effect, Memory>
     requires booted { store.old.booted ≡ true }
-    requires empty { empty.list ≡ [] }
     requires report { report.old ≡ nothing_reported }
-    ensures effect { IfOk result (λ done. B.tells → (s : State) → s.tables ≡ tables.now → StandsFor B.tells B.now store.old s.store
-        → Calls B.Bank store.old store.new s (reported_effect done.answer done.bytes report.new done.note) (delete_cds_effect s name.now)) }
-    ensures call { IfOk result (λ done. IsCall B.Bank store.old store.new (reported_effect done.answer done.bytes report.new done.note)) }
+    ensures made { IfOk result (λ done. Made B.Bank (at_desk desk.now store.old) (at_desk desk.now store.new) (λ s. delete_cds_effect s name.now)
+        (reported_effect done.answer done.bytes report.new done.note)) }
     // The bank got the calls that this call of the store makes, and no others.
-    ensures bank_calls { IfOk result (λ done. AsksBy B.Bank store.old.bank store.new.bank done.note.outcome (delete_named store.old.slots name.now)) }
+    ensures bank_calls { IfOk result (λ done. asks_delete_named name.now B.Bank store.old store.new done.note.outcome) }
     ensures report { IfOk result (λ done. report.new ≡ record nothing_reported { table = report.new.table }) }
     ensures err { OnErr result (store.new ≡ store.old) }
 {
-    let is_registered = tell_table(report, subject(tables, name));
-    delete_table_block(alloc, store, name, is_registered, empty)
+    let is_registered = tell_table(report, subject(&desk.tables, name));
+    delete_table_block(desk.alloc, store, name, is_registered)
 }

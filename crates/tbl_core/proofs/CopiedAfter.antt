@@ -1,14 +1,13 @@
 -- A call of a table's owner, after which an image that went active was copied: what is made of it, over any bank and over one that shows
 -- its bytes.
-use Rattle.std.proofs.Common.{◌≡◌, ◌∙◌, ℕ, suc, List, [], ◌∷◌, length, true, false, not, Option, Some, None, ℤ, refl, sym, ap, subst, ◌⊎◌, inl, inr, arith}
+use Rattle.std.proofs.Common.{◌≡◌, ◌∙◌, ℕ, suc, List, [], length, true, false, not, Option, Some, None, ℤ, refl, sym, ap, subst, ◌⊎◌, inl, inr, arith}
 use Rattle.std.specs.Option.{option_map}
 use Rattle.std.proofs.lemmas.Bool.{cond_both}
 use Rattle.tbl_kinds.specs.Blocks.{Store as Blocks}
-use Rattle.tbl_kinds.specs.StoreCalls.{StoreCall, copy}
+use Rattle.tbl_kinds.specs.StoreCalls.{StoreCall}
 use Rattle.tbl_kinds.specs.Notes.{untouched}
 use Rattle.tbl_kinds.specs.declared.note.BankNote.{BankNote}
-use Rattle.tbl_kinds.specs.declared.note.Outcome.{Outcome}
-use Rattle.tbl_kinds.specs.declared.note.Outcome.TheVariants.{Untouched, Done, Failed, Stopped}
+use Rattle.tbl_kinds.specs.declared.note.Outcome.TheVariants.{Stopped}
 use Rattle.tbl_kinds.specs.declared.request.Actor.{Actor}
 use Rattle.tbl_kinds.specs.declared.request.Request.{Request}
 use Rattle.tbl_kinds.specs.declared.request.Request.TheVariants as ask
@@ -25,8 +24,7 @@ use Rattle.tbl_model.specs.Tables.{table_at, is_critical}
 use Rattle.tbl_model.specs.Effects as model
 use Rattle.tbl_model.specs.Given.{Given}
 use Rattle.tbl_model.specs.BankCounts.{stopped_once, HasCause}
-use Rattle.tbl_model.specs.Copies.{went_active, block_of, copy_failed, copied_to, copied_of, then_copy}
-use Rattle.tbl_model.specs.StoreUse.{with_calls, by_outcome}
+use Rattle.tbl_model.specs.Copies.{went_active, block_of, copied_to, copied_of, then_copy}
 use Rattle.tbl_model.specs.Boots.{stopped}
 use Rattle.tbl_model.specs.Refusals.{by_answer, by_refusal, closed_refusal, image_refusal, file_refusal}
 use Rattle.tbl_model.specs.Subjects.{if_file}
@@ -39,7 +37,6 @@ use Rattle.tbl_laws.proofs.Causes.{caused}
 use Rattle.tbl_laws.proofs.Ordinary.{IsOrdinary, ordinary}
 use Rattle.tbl_core.specs.Requests.{activates}
 use Rattle.store_requests.specs.Called.{with_boot}
-use Rattle.tbl_session.specs.Restores.{RestoresHeld}
 use Rattle.request_effects.specs.Effects.{IsEffect, given_of}
 use Rattle.tbl_core.specs.Owned.{owned_effect, owned_at}
 use Rattle.tbl_core.specs.Service.{PartsView, IsStateOf, state_of, step_of, DoesAndCopies, Has, HasEffect, Makes, Meets, AreReady}
@@ -66,31 +63,6 @@ uncopied row note e empty = cond_both (went_active e) _ _ (λ x. x ≡ e) (λ _.
   of : (t : Option Table) → copied_of row note e t ≡ e
   of None = refl
   of (Some t) = cond_both (is_critical t) _ _ (λ x. x ≡ e) (λ _. to t (block_of t e.next.store) (none t)) (λ _. refl)
-
--- a copy restores nothing
-module _ (bytes : List ℕ) (blocks : Blocks) (row : ℕ) (note : BankNote) where
-  abbrev RestoresAsHeld : model.Effect → Type 0
-  RestoresAsHeld x = RestoresHeld bytes x.calls blocks note
-
-  copy_holds : (slot : ℕ) (image : List ℕ) (outcome : Outcome) (e : model.Effect) → RestoresAsHeld (by_outcome outcome (with_calls (copy slot image ∷ []) note e) (copy_failed row slot (with_calls (copy slot image ∷ []) note e)) (stopped note (with_calls (copy slot image ∷ []) note e)))
-  copy_holds slot image Untouched e = tt
-  copy_holds slot image Done e = tt
-  copy_holds slot image Failed e = tt
-  copy_holds slot image Stopped e = tt
-
-  to_holds : (e : model.Effect) → RestoresAsHeld e → (slot : Option ℕ) (image : Option (List ℕ)) → RestoresAsHeld (copied_to row note e slot image)
-  to_holds e plain None image = plain
-  to_holds e plain (Some slot) None = plain
-  to_holds e plain (Some slot) (Some image) = copy_holds slot image note.outcome e
-
-  of_holds : (e : model.Effect) → RestoresAsHeld e → (t : Option Table) → RestoresAsHeld (copied_of row note e t)
-  of_holds e plain None = plain
-  of_holds e plain (Some t) = cond_both (is_critical t) _ _ RestoresAsHeld (λ _. to_holds e plain (block_of t e.next.store) t.last) (λ _. plain)
-
-  pub copies_hold : (e : model.Effect) → e.calls ≡ [] → RestoresAsHeld (then_copy row note e)
-  copies_hold e none =
-      let plain : RestoresAsHeld e = subst (λ (calls : List StoreCall). RestoresHeld bytes calls blocks note) (sym none) tt in
-      cond_both (went_active e) _ _ RestoresAsHeld (λ _. of_holds e plain (table_at e.next.tables row)) (λ _. plain)
 
 -- what the request does to the table takes verdicts alone from what is given
 module _ (s : State) (row : ℕ) (one other : BankNote) (verdicts : List (Option ℤ)) where
@@ -148,7 +120,7 @@ module _ {B C : Type 0} (g : Ghosts B) (v : ValidatorGhosts C) (old new : PartsV
   quiet = subst (HasCause does.before.answer.status) does.does.note (subst (λ (status : Status). HasCause status does.before.note) left.2.status (subst (OfEffect (λ e. HasCause e.status does.before.note)) whole (caused (state_of old) (given_of does.before) actor request)))
 
   cause : HasCause done.answer.status done.note
-  cause = by does.call.answer where
+  cause = by does.copied.call.answer where
     by : (done.answer.status ≡ does.before.answer.status) ⊎ ((done.answer.status ≡ INFO_STOPPED) × (done.note.outcome ≡ Stopped)) → HasCause done.answer.status done.note
     by (inl same) = record {
       stop = λ is. absurd (quiet.stop (sym same ∙ is) refl);
@@ -174,15 +146,15 @@ module _ {B C : Type 0} (g : Ghosts B) (v : ValidatorGhosts C) (old new : PartsV
     fit = λ n fit. fit_without (suc n) [] (state_of new) (subst (AreFit (suc n)) (state_is (record new { store = old.store }) [] left.0.next left.3) (ordinary_left n fit).fit);
     judged = (
       left.0.questions,
-      subst (λ (verdicts : List (Option ℤ)). Judged v old.kit new.kit left.0.questions verdicts) (sym does.call.verdicts)
+      subst (λ (verdicts : List (Option ℤ)). Judged v old.kit new.kit left.0.questions verdicts) (sym does.copied.call.verdicts)
           (judged_there v old.kit new.kit does.before.verdicts _ left.0 left.1 (does.does.judged (state_of old) (stands_in old))),
     );
-    two = ap length does.call.verdicts ∙ does.does.two;
-    within = let within = does.call.within 3 does.does.within in let few = within.events in record { events = omega (arith, few); notice = within.notice; bytes = within.bytes };
-    booted = does.call.booted ∙ sym (ap not goes);
-    ended = goes ∙ sym does.call.no_boot.ended;
-    stopped = λ is. (does.call.stopped is, does.call.no_boot);
-    trouble = does.call.trouble;
+    two = ap length does.copied.call.verdicts ∙ does.does.two;
+    within = let within = does.copied.call.within 3 does.does.within in let few = within.events in record { events = omega (arith, few); notice = within.notice; bytes = within.bytes };
+    booted = does.copied.call.booted ∙ sym (ap not goes);
+    ended = goes ∙ sym does.copied.call.no_boot.ended;
+    stopped = λ is. (does.copied.call.stopped is, does.copied.call.no_boot);
+    trouble = does.copied.call.trouble;
     cause = cause;
     pins = pins;
   }
@@ -194,7 +166,7 @@ module _ {B C : Type 0} (g : Ghosts B) (v : ValidatorGhosts C) (old new : PartsV
       let n = with_boot follows.ended follows.stopped follows.found done.note in
       let means : effect_of s actor request (record { note = note; verdicts = done.verdicts }) ≡ Some (then_copy row note e) =
       taken s holds.parts (record { note = note; verdicts = done.verdicts })
-      ∙ ap (option_map (then_copy row note)) (ap (λ (verdicts : List (Option ℤ)). owned_at (table_at s.tables row) s row request (record { note = note; verdicts = verdicts })) does.call.verdicts
+      ∙ ap (option_map (then_copy row note)) (ap (λ (verdicts : List (Option ℤ)). owned_at (table_at s.tables row) s row request (record { note = note; verdicts = verdicts })) does.copied.call.verdicts
       ∙ same_owned s row note does.before.note does.before.verdicts request can ∙ found.1) in
       let stands : IsStateOf e.next.store new e.next = record {
         tables = found.3.tables;
@@ -208,10 +180,9 @@ module _ {B C : Type 0} (g : Ghosts B) (v : ValidatorGhosts C) (old new : PartsV
         sub = found.3.sub;
         ended = found.3.ended;
       } in
-      let c = does.copied told e found.2 found.3.tables (subst (λ (blocks : Blocks). HasBlocks g.tells g.now old.store blocks) (sym found.3.store) (holds.blocks ready.live)) follows.ended follows.stopped follows.found in
+      let c = does.copied.effect told e found.2 found.3.tables (subst (λ (blocks : Blocks). HasBlocks g.tells g.now old.store blocks) (sym found.3.store) (holds.blocks ready.live)) follows.ended follows.stopped follows.found in
       subst (Has g v (step_of old new request) s done note) (sym means)
       (subst (λ (n : BankNote). HasEffect g v (step_of old new request) s done n (then_copy row n e)) (sym follows.is)
-      (has_called g v old new request done plain does.call.no_boot s e.next e.questions (then_copy row n e) follows.ended follows.stopped follows.found (λ goes. sym follows.is ∙ follows.same goes) c
+      (has_called g v old new request done plain does.copied.call.no_boot s e.next e.questions (then_copy row n e) follows.ended follows.stopped follows.found (λ goes. sym follows.is ∙ follows.same goes) c
       found.3.store stands
-      (subst (λ (verdicts : List (Option ℤ)). Judged v old.kit new.kit e.questions verdicts) (sym does.call.verdicts) (judged_there v old.kit new.kit does.before.verdicts _ e found.1 (does.does.judged s holds.parts)))
-      (copies_hold (g.now old.store.bank) s.store row n e found.2.calls)))
+      (subst (λ (verdicts : List (Option ℤ)). Judged v old.kit new.kit e.questions verdicts) (sym does.copied.call.verdicts) (judged_there v old.kit new.kit does.before.verdicts _ e found.1 (does.does.judged s holds.parts)))))

@@ -12,7 +12,6 @@ pub mod Owners
 pub mod Ready
 pub mod Resets
 pub mod Served
-pub mod Restoring
 pub mod Starting
 pub mod Stepping
 pub mod Steps

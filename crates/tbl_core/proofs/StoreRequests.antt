@@ -1,5 +1,5 @@
 -- A request that calls the store was made: what it did, with any note that a boot after it may leave.
-use Rattle.std.proofs.Common.{◌≡◌, ◌≢◌, ◌∙◌, ℕ, suc, List, [], ◌∷◌, Bool, false, not, Option, Some, None, IsSome, unwrap_or, Result, Ok, refl, sym, ap, subst, inl, inr, arith}
+use Rattle.std.proofs.Common.{◌≡◌, ◌≢◌, ◌∙◌, ℕ, suc, List, [], ◌∷◌, Bool, false, not, Option, Some, None, IsSome, unwrap_or, Result, Ok, Err, refl, sym, ap, subst, inl, inr, arith}
 use Rattle.tbl_kinds.specs.Notes.{untouched}
 use Rattle.tbl_kinds.specs.Blocks.{Store as Blocks}
 use Rattle.tbl_model.specs.State.{State, Tables}
@@ -37,16 +37,23 @@ use Rattle.validation.specs.Kits.{owners}
 use Rattle.tbl_session.specs.Crashes.{DuringCalls, writes}
 use Rattle.tbl_outside.proofs.Moments.{leaves_among}
 use Rattle.cds_layout.specs.Images.{store_of}
-use Rattle.cds_store.specs.StoreBlocks.{StandsFor}
+use Rattle.cds_store.specs.StoreBlocks.{StoreParts, StandsFor}
 use Rattle.tbl_core.specs.BankAsked.{BootAsks}
-use Rattle.store_requests.specs.Called.{NoBoot, with_boot, IsCall, IsCalled, Calls, GaveAsHeld}
+use Rattle.store_requests.specs.Called.{NoBoot, with_boot, IsCall, IsCalled, Calls}
+use Rattle.store_requests.specs.Requests.{Site, Made, Served}
+use Rattle.store_requests.proofs.Promised.{of_served}
+use Rattle.std.specs.Prelude.{IfOk, OnOk, OnErr}
 use Rattle.tbl_session.specs.Restores.{RestoresHeld}
-use Rattle.tbl_core.specs.Service.{PartsView, IsStateOf, HoldsAll, state_of, step_of, HasEffect, Makes, Meets}
+use Rattle.tbl_core.specs.Service.{PartsView, IsStateOf, state_of, step_of, HasEffect, Makes, Meets}
 use Rattle.tbl_core.specs.Verdicts.{Judged}
 use Rattle.request_effects.specs.Effects.{Effect}
 use Rattle.tbl_core.proofs.Verdicts.{none_judged}
 use Rattle.tbl_outside.specs.declared.bank.Bank.{Ghosts}
 use Rattle.tbl_outside.specs.declared.validator.Validator.{Ghosts as ValidatorGhosts}
+
+-- the parts as a request that calls the store finds or leaves them
+abbrev pub site_of : {B C : Type 0} → PartsView B C → Site B
+site_of held = record { store = held.store; state = λ s. record s { tables = held.tables; kit = owners held.kit; apps = held.apps } }
 
 -- which boot comes after a request that isn't a Reset
 pub boot_at : (request : Request) → is_reset request ≡ false → boot_in request Stopped ≡ Some Processor
@@ -80,9 +87,9 @@ module _ {B C : Type 0} (g : Ghosts B) (v : ValidatorGhosts C) (old new : PartsV
   -- what it did to the state before its calls, and what it asked
   pub has_called : (plain : is_reset request ≡ false) (no_boot : NoBoot done.note) (s after : State) (questions : List Question) (e : model.Effect) (ended stopped : Bool) (found : List ℕ)
       (same : done.note.outcome ≢ Stopped → with_boot ended stopped found done.note ≡ done.note) → IsCalled g old.store new.store (record { state = after; questions = questions }) done (with_boot ended stopped found done.note) e
-      → after.store ≡ s.store → IsStateOf after.store new after → Judged v old.kit new.kit questions done.verdicts → RestoresHeld (g.now old.store.bank) e.calls s.store (with_boot ended stopped found done.note)
+      → after.store ≡ s.store → IsStateOf after.store new after → Judged v old.kit new.kit questions done.verdicts
       → HasEffect g v (step_of old new request) s done (with_boot ended stopped found done.note) e
-  has_called plain no_boot s after questions e ended stopped found same c kept stands judged gave =
+  has_called plain no_boot s after questions e ended stopped found same c kept stands judged =
       let note = with_boot ended stopped found done.note in
       let left = left_by e.calls note after.store in record {
         before = record after { store = left };
@@ -114,7 +121,7 @@ module _ {B C : Type 0} (g : Ghosts B) (v : ValidatorGhosts C) (old new : PartsV
           next = c.effect.next;
         };
         judged = subst (λ (questions : List Question). Judged v old.kit new.kit questions done.verdicts) (sym c.effect.questions) judged;
-        gave = gave;
+        gave = subst (λ (store : Blocks). RestoresHeld (g.now old.store.bank) e.calls store note) kept c.held;
         left = λ _. ap (λ (store : Blocks). left_by e.calls note store) kept;
         writing = c.writing;
         moments = λ m. leaves_among (c.moments m) (λ image during. inl (subst (λ (store : Blocks). DuringCalls (writes e.calls) store (store_of image)) kept during));
@@ -151,41 +158,56 @@ module _ {B C : Type 0} (g : Ghosts B) (v : ValidatorGhosts C) (old new : PartsV
         }
 
     -- if the model's effect is this
-    pub call_meets : (means : State → BankNote → model.Effect) (calls : g.tells → (s : State) → HoldsAll g old s → Calls g old.store new.store (record s { tables = new.tables }) done (means s)) (plain : is_reset request ≡ false)
-        (gave : g.tells → (s : State) → HoldsAll g old s → GaveAsHeld g old.store s.store done (means s))
-        → Meets g v (step_of old new request) (λ s given. Some (means s given.note)) done
-    call_meets means calls plain gave told s holds note follows =
+    pub call_meets : (means : State → BankNote → model.Effect) → Made g (site_of old) (site_of new) means done → is_reset request ≡ false → Meets g v (step_of old new request) (λ s given. Some (means s given.note)) done
+    call_meets means made plain told s holds note follows =
+        let before : (site_of old).state s ≡ s = λ i. record s { tables = sym holds.parts.tables i; kit = sym holds.parts.kit i; apps = sym holds.parts.apps i } in
+        let kit : owners new.kit ≡ s.kit = ap (λ (h : PartsView B C). owners h.kit) held ∙ sym holds.parts.kit in
+        let apps : new.apps ≡ s.apps = ap (λ (h : PartsView B C). h.apps) held ∙ sym holds.parts.apps in
+        let after : (site_of new).state s ≡ record s { tables = new.tables } = λ i. record s { tables = new.tables; kit = kit i; apps = apps i } in
+        let calls : Calls g old.store new.store (record s { tables = new.tables }) done (means s) =
+        subst (λ (x : State). Calls g old.store new.store x done (means s)) after (subst (λ (x : State). Calls g old.store new.store ((site_of new).state s) done (means x)) before (made.effect told s (holds.blocks live))) in
         subst (λ (n : BankNote). HasEffect g v (step_of old new request) s done n (means s n)) (sym follows.is)
         (has_called plain call.no_boot s (record s { tables = new.tables }) [] (means s (with_boot follows.ended follows.stopped follows.found done.note)) follows.ended follows.stopped follows.found (λ goes. sym follows.is ∙ follows.same goes)
-        (calls told s holds follows.ended follows.stopped follows.found) refl (record {
+        (calls follows.ended follows.stopped follows.found) refl (record {
           tables = refl;
           pending = holds.parts.pending ∙ sym (ap (λ (h : PartsView B C). h.pending) held);
           store = refl;
           drawer = holds.parts.drawer ∙ sym (ap (λ (h : PartsView B C). h.drawer) held);
-          apps = holds.parts.apps ∙ sym (ap (λ (h : PartsView B C). h.apps) held);
-          kit = holds.parts.kit ∙ sym (ap (λ (h : PartsView B C). owners h.kit) held);
+          apps = sym apps;
+          kit = sym kit;
           admit = holds.parts.admit ∙ sym (ap (λ (h : PartsView B C). h.admit) held);
           seconds = holds.parts.seconds ∙ sym (ap (λ (h : PartsView B C). h.seconds) held);
           sub = holds.parts.sub ∙ sym (ap (λ (h : PartsView B C). h.sub) held);
           ended = holds.parts.ended ∙ sym (ap (λ (h : PartsView B C). h.ended) held);
-        }) (unasked [] refl) (gave told s holds follows.ended follows.stopped follows.found))
+        }) (unasked [] refl))
 
-  -- tables stay
-  module _ (held : new ≡ record old { store = new.store }) (live : old.ended ≡ false) (call : IsCall g old.store new.store done) where
-    same_tables : new ≡ record old { store = new.store; tables = new.tables }
-    same_tables = held ∙ ap (λ (tables : Tables). record old { store = new.store; tables = tables }) (sym (ap (λ (h : PartsView B C). h.tables) held))
+-- a request about blocks leaves all but the store
+module _ {B C : Type 0} (g : Ghosts B) (v : ValidatorGhosts C) (old : PartsView B C) (store : StoreParts B) (request : Request) (live : old.ended ≡ false) where
+  pub block_makes : ((n : ℕ) → asks_address n request ≡ false) → (done : Effect) → IsCall g old.store store done → Makes g v request old (record old { store = store }) done
+  block_makes none done call = call_makes g v old (record old { store = store }) request done refl live call (λ n fit. grown n (state_of old) fit) (stays_keeps old.tables) none
 
-    pub block_makes : ((n : ℕ) → asks_address n request ≡ false) → Makes g v request old new done
-    block_makes none = call_makes same_tables live call (λ n fit. subst (λ (tables : Tables). AreFit (suc n) (record (state_of old) { tables = tables })) (sym (ap (λ (h : PartsView B C). h.tables) held)) (grown n (state_of old) fit))
-        (subst (Keeps old.tables) (sym (ap (λ (h : PartsView B C). h.tables) held)) (stays_keeps old.tables)) none
+  module _ {E : Type 0} (means : State → BankNote → model.Effect) (Asks : Ghosts B → StoreParts B → StoreParts B → Outcome → Type 0) (r : Result Effect E) (served : Served g (site_of old) (site_of (record old { store = store })) means Asks r) where
+    pub blocks_make : ((n : ℕ) → asks_address n request ≡ false) → IfOk r (Makes g v request old (record old { store = store }))
+    blocks_make none = of_served g (site_of old) (site_of (record old { store = store })) means Asks r _ (λ done it. block_makes none done it.made.call) served
 
-    pub block_meets : (means : State → BankNote → model.Effect) (calls : g.tells → (s : State) → HoldsAll g old s → Calls g old.store new.store s done (means s)) (plain : is_reset request ≡ false)
-        (gave : g.tells → (s : State) → HoldsAll g old s → GaveAsHeld g old.store s.store done (means s))
-        → Meets g v (step_of old new request) (λ s given. Some (means s given.note)) done
-    block_meets means calls = call_meets same_tables live call means
-        (λ told s holds. subst (λ (tables : Tables). Calls g old.store new.store (record s { tables = tables }) done (means s)) (holds.parts.tables ∙ sym (ap (λ (h : PartsView B C). h.tables) held)) (calls told s holds))
+    pub blocks_meet : is_reset request ≡ false → IfOk r (Meets g v (step_of old (record old { store = store }) request) (λ s given. Some (means s given.note)))
+    blocks_meet plain = of_served g (site_of old) (site_of (record old { store = store })) means Asks r _ (λ done it. call_meets g v old (record old { store = store }) request done refl live it.made.call means it.made plain) served
+
+    pub blocks_kept : OnErr r (record old { store = store } ≡ old)
+    blocks_kept = by r served where
+      by : (r : Result Effect E) → Served g (site_of old) (site_of (record old { store = store })) means Asks r → OnErr r (record old { store = store } ≡ old)
+      by (Ok done) it = tt
+      by (Err e) kept = ap (λ (parts : StoreParts B). record old { store = parts }) kept
 
 -- ---- a registration
+
+pub with_two : {T E : Type 0} (r : Result T E) (P R : T → Type 0) (Q S : Type 0) → IfOk r P → OnOk r Q → OnOk r S → ((x : T) → P x → Q → S → R x) → IfOk r R
+with_two (Ok x) P R Q S p q s then = then x p q s
+with_two (Err e) P R Q S p q s then = tt
+
+pub both_lost : {T E : Type 0} (r : Result T E) (P Q R : Type 0) → OnErr r P → OnErr r Q → (P → Q → R) → OnErr r R
+both_lost (Ok x) P Q R p q then = tt
+both_lost (Err e) P Q R p q then = then p q
 
 some_is : (o : Option ℕ) → IsSome o → o ≡ Some (unwrap_or o 0)
 some_is None is = absurd (cc is)

@@ -43,13 +43,13 @@ use Rattle.tbl_kinds.specs.declared.request.ResetKind.{ResetKind}
 use Rattle.tbl_kinds.specs.declared.request.ResetKind.TheVariants.{Processor, PowerOn}
 use Rattle.tbl_kinds.specs.declared.status.TheConstants.Status.{INFO_STOPPED}
 use Rattle.tbl_model.specs.Copies.{then_copy}
-use Rattle.store_requests.specs.Called.{NoBoot, boots_after, Troubled, Leaving, done_first, CallsAfter}
+use Rattle.store_requests.specs.Called.{NoBoot, boots_after, Troubled, Leaving}
 use Rattle.tbl_session.specs.Restores.{RestoresHeld}
 use Rattle.tbl_core.specs.Ended.{Follows, session_end}
 use Rattle.tbl_core.specs.BankAsked.{BankAsked, AsksOnce}
 use Rattle.tbl_core.specs.Owned.{owned_at, copied_at}
 use Rattle.desk.specs.Limits.{AreCounted, AreSendable}
-use Rattle.store_requests.specs.Copying.{IsCopyCall}
+use Rattle.store_requests.specs.Copying.{Copied}
 use Rattle.request_effects.specs.Reports.{most_events}
 use Rattle.request_effects.specs.Effects.{Effect, IsEffect, IsWithin, uncalled, given_of}
 use Rattle.tbl_kinds.specs.Notes.{untouched}
@@ -281,9 +281,7 @@ pub record LeadsTo {B C : Type 0} (held : PartsView B C) (actor : Actor) (reques
 pub record DoesAndCopies {B C : Type 0} (g : Ghosts B) (v : ValidatorGhosts C) (old new : PartsView B C) (row : ℕ) (request : Request) (done : Effect) : Type 0 where
   pub before : Effect  -- the copy
   pub does : Does v 3 old (record new { store = old.store }) (owned_in row request) before
-  pub copied : g.tells → (e : model.Effect) → IsEffect before e.questions e.next e → e.next.tables ≡ new.tables → HasBlocks g.tells g.now old.store e.next.store
-      → CallsAfter g old.store new.store (done_first e) done (λ n. then_copy row n e)
-  pub call : IsCopyCall g old.store new.store before done
+  pub copied : Copied g old.store new.store before done (λ e. e.next.tables ≡ new.tables) (λ e n. then_copy row n e)
 
 -- ---- any request, before the boot after a stop of it
 

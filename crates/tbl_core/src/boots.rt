@@ -21,11 +21,10 @@ ghost use Rattle.tbl_core.specs.Service.{HoldsAll, Makes, Meets, parts_view, ste
 use crate::parts::Parts;
 use crate::service::StepFault;
 use cds_store::{BankFault, Store};
-use request_effects::Effect;
 use sharing::Apps;
 use std::mem;
-use store_requests::{note_room, noted};
-use tbl_kinds::{Answer, BankNote, Bytes, Given, Memory, Note, Outcome, ResetKind, Status};
+use store_requests::{Effect, note_room};
+use tbl_kinds::{Answer, BankNote, Given, Memory, Note, Outcome, ResetKind, Status};
 use tbl_outside::{Bank, Validator};
 
 /// The store boots, and the note says how it went.
@@ -114,8 +113,7 @@ impl<B: Bank, C: Validator> Parts<B, C> {
     }
 
     /// The processor is reset (cFE User's Guide, Executive Services, "Reset Types and Subtypes").
-    pub(crate) fn reset(&mut self, kind: ResetKind, empty: Bytes) -> Result<Effect, Memory>
-        requires empty { empty.list ≡ [] }
+    pub(crate) fn reset(&mut self, kind: ResetKind) -> Result<Effect, Memory>
         requires live { self.old.ended ≡ false }
         ensures no_call { IfOk result (λ done. done.note.outcome ≡ Untouched) }
         ensures makes { IfOk result (Makes B.Bank C.Validator (ask.Reset kind) (parts_view self.old) (parts_view self.new)) }
@@ -127,7 +125,7 @@ impl<B: Bank, C: Validator> Parts<B, C> {
         self.boot(kind, &mut whole.note);
         self.clear_at_power_on(kind);
         let status = reset_status(&whole.note);
-        Ok(noted(Answer::plain(status), empty, whole))
+        Ok(Effect::noted(Answer::plain(status), Note::of(whole)))
     }
 
     /// Boots as after a reset of the processor if a call of the store was stopped in the request of this note. The note says how the boot

@@ -1,16 +1,17 @@
 //! What plays each request, and what packets report of it.
 
-ghost use Rattle.std.specs.Prelude.{◌≡◌, [], true, None, IfOk, OnOk, OnErr, ◌≤◌, Some, IsSome};
+ghost use Rattle.std.specs.Prelude.{◌≡◌, true, None, IfOk, OnOk, OnErr, Some, IsSome};
 ghost use Rattle.tbl_kinds.specs.Requests.{Fits};
 ghost use Rattle.tbl_kinds.specs.Given.{nothing_given};
 ghost use Rattle.tbl_kinds.specs.declared.request.Actor.TheVariants as by;
 ghost use Rattle.tbl_model.specs.Dispatch.{ground_effect, effect_of};
 ghost use Rattle.request_effects.specs.Requests.{read_of};
 ghost use Rattle.request_effects.specs.Reports.{nothing_reported};
-ghost use Rattle.request_effects.specs.Effects.{reported_effect, told_effect, HasRoom};
+ghost use Rattle.request_effects.specs.Effects.{HasRoom};
+ghost use Rattle.store_requests.specs.Copying.{told_in};
 ghost use Rattle.tbl_core.specs.Answers.{moment_of, CanAnswer, Answered, IsEmptyReply};
 ghost use Rattle.tbl_core.specs.Requests.{told_handle, is_command, activates};
-ghost use Rattle.tbl_core.specs.Service.{MayPlay, Does, parts_view, AreReady, DoesAndCopies, LeadsTo, Makes, Meets, owned_in, step_of};
+ghost use Rattle.tbl_core.specs.Service.{MayPlay, parts_view, AreReady, DoesAndCopies, LeadsTo, Makes, Meets, step_of};
 ghost use Rattle.tbl_kinds.specs.Notes.{untouched};
 ghost use Rattle.tbl_kinds.specs.GroundCommands.{command_in};
 ghost use Rattle.tbl_kinds.specs.declared.request.Request.TheVariants as ask;
@@ -25,7 +26,7 @@ use desk::check;
 use reply_packets::{Counters, tell_call, tell_command};
 use request_effects::{ReadCommand, Report, read};
 use store_requests::{copy_room, delete_cds, then_copy};
-use tbl_kinds::{Actor, Answer, Bytes, Entry, Given, Memory, Note, Outcome, Reply, Request};
+use tbl_kinds::{Actor, Answer, Entry, Given, Memory, Note, Outcome, Reply, Request};
 use tbl_outside::{Bank, Validator};
 use update_requests::app_validate;
 
@@ -35,6 +36,27 @@ pub(crate) fn put_answer(reply: &mut Reply, answer: Answer)
 {
     reply.status = answer.status;
     reply.detail = answer.detail;
+}
+
+/// Keeps an answer that calls nothing of the store in its reply. Gives the note.
+#[inline(always)]
+fn answered(reply: &mut Reply, answer: Answer) -> Note
+    ensures reply { reply.new ≡ record reply.old { status = answer.status; detail = answer.detail } }
+    ensures note { result ≡ untouched }
+{
+    put_answer(reply, answer);
+    Note::untouched()
+}
+
+/// The answer that a reply has.
+#[inline(always)]
+pub(crate) fn answer_in(reply: &Reply) -> Answer
+    ensures { result ≡ record { status = reply.now.status; detail = reply.now.detail } }
+{
+    Answer {
+        status: reply.status,
+        detail: reply.detail,
+    }
 }
 
 /// Keeps in its entry what came from outside, if anything did.
@@ -102,9 +124,8 @@ impl<B: Bank, C: Validator> Parts<B, C> {
         let mut command = Ok(Ground::Noop);
         read(bytes.bytes(), &mut command);
         let reply = &mut entry.reply;
-        let mut note = Note::untouched();
-        let answer = self.command_effect(&command, reply, &mut note)?;
-        put_answer(reply, answer);
+        let mut note = self.command_effect(&command, reply)?;
+        let answer = answer_in(reply);
         self.boot_if_stopped(&mut note);
         let packets = &mut reply.packets;
         let tables = &self.desk.tables;
@@ -121,44 +142,29 @@ impl<B: Bank, C: Validator> Parts<B, C> {
         Ok(())
     }
 
-    /// Does what a command asks that was read so. If a call of the store was stopped, the service doesn't boot yet.
-    fn command_effect(
-        &mut self,
-        command: &ReadCommand,
-        reply: &mut Reply,
-        note: &mut Note,
-    ) -> Result<Answer, Memory>
+    /// Does what a command asks that was read so. If a call of the store was stopped, as the note says, the service doesn't boot yet.
+    fn command_effect(&mut self, command: &ReadCommand, reply: &mut Reply) -> Result<Note, Memory>
         requires ready { AreReady C.Validator (parts_view self.old) }
         requires nothing { self.old.report ≡ nothing_reported }
         requires empty { IsEmptyReply reply.old }
-        requires untouched { note.old ≡ untouched }
-        ensures makes { IfOk result (λ answer. (packet : Buffer) → read_of command.now ≡ command_in packet.list
-            → Makes B.Bank C.Validator (ask.Command packet) (parts_view self.old) (parts_view self.new) (reported_effect answer reply.new.bytes.list self.new.report note.new)) }
-        ensures meets { IfOk result (λ answer. (packet : Buffer) → read_of command.now ≡ command_in packet.list
+        ensures makes { IfOk result (λ note. (packet : Buffer) → read_of command.now ≡ command_in packet.list
+            → Makes B.Bank C.Validator (ask.Command packet) (parts_view self.old) (parts_view self.new) (told_in reply.new self.new.report note)) }
+        ensures meets { IfOk result (λ note. (packet : Buffer) → read_of command.now ≡ command_in packet.list
             → Meets B.Bank C.Validator (step_of (parts_view self.old) (parts_view self.new) (ask.Command packet)) (λ s given. ground_effect s (ask.Command packet) given)
-            (reported_effect answer reply.new.bytes.list self.new.report note.new)) }
-        ensures room { IfOk result (λ answer. HasRoom 24 reply.new.packets (reported_effect answer reply.new.bytes.list self.new.report note.new)) }
+            (told_in reply.new self.new.report note)) }
+        ensures room { IfOk result (λ note. HasRoom 24 reply.new.packets (told_in reply.new self.new.report note)) }
         ensures err { OnErr result (parts_view self.new ≡ parts_view self.old) }
     {
         match command {
-            Err(fault) => Ok(fault.answer()),
+            Err(fault) => Ok(answered(reply, fault.answer())),
             Ok(Ground::DeleteCds { table }) => {
-                let empty = Bytes::make(self.desk.alloc, 0)?;
-                let store = &mut self.store;
-                let report = &mut self.report;
-                let effect = delete_cds(
-                    self.desk.alloc,
-                    &self.desk.tables,
-                    store,
-                    table,
-                    empty,
-                    report,
-                )?;
-                reply.bytes = effect.bytes;
-                *note = effect.note;
-                Ok(effect.answer)
+                let effect = delete_cds(&self.desk, &mut self.store, &mut self.report, table)?;
+                Ok(effect.put(reply))
             }
-            Ok(command) => commanded(&mut self.desk, reply, &mut self.report, command),
+            Ok(command) => {
+                let answer = commanded(&mut self.desk, reply, &mut self.report, command)?;
+                Ok(answered(reply, answer))
+            }
         }
     }
 
@@ -248,9 +254,8 @@ impl<B: Bank, C: Validator> Parts<B, C> {
     {
         let clock = self.desk.clock;
         let Entry { request, reply, .. } = entry;
-        let mut note = Note::untouched();
-        let answer = self.told_effect(row, request, reply, &mut note)?;
-        put_answer(reply, answer);
+        let mut note = self.told_effect(row, request, reply)?;
+        let answer = answer_in(reply);
         self.boot_if_stopped(&mut note);
         let packets = &mut reply.packets;
         let tables = &self.desk.tables;
@@ -267,32 +272,34 @@ impl<B: Bank, C: Validator> Parts<B, C> {
         Ok(())
     }
 
-    /// Does what the owner of the table of a row asks for it. If a copy into the store was stopped, the service doesn't boot yet.
+    /// Does what the owner of the table of a row asks for it. If a copy into the store was stopped, as the note says, the service doesn't
+    /// boot yet.
     fn told_effect(
         &mut self,
         row: u8,
         request: &mut Request,
         reply: &mut Reply,
-        note: &mut Note,
-    ) -> Result<Answer, Memory>
+    ) -> Result<Note, Memory>
         requires asks { IsSome (told_handle request.old) }
         requires table { IsSome (table_at self.old.desk.tables row) }
         requires ready { AreReady C.Validator (parts_view self.old) }
         requires nothing { self.old.report ≡ nothing_reported }
         requires empty { IsEmptyReply reply.old }
-        requires untouched { note.old ≡ untouched }
-        ensures makes { IfOk result (λ answer. (actor : Actor) → LeadsTo (parts_view self.old) actor request.old row
-            → Makes B.Bank C.Validator request.old (parts_view self.old) (parts_view self.new) (reported_effect answer reply.new.bytes.list self.new.report note.new)) }
-        ensures meets { IfOk result (λ answer. (actor : Actor) → LeadsTo (parts_view self.old) actor request.old row
+        ensures makes { IfOk result (λ note. (actor : Actor) → LeadsTo (parts_view self.old) actor request.old row
+            → Makes B.Bank C.Validator request.old (parts_view self.old) (parts_view self.new) (told_in reply.new self.new.report note)) }
+        ensures meets { IfOk result (λ note. (actor : Actor) → LeadsTo (parts_view self.old) actor request.old row
             → Meets B.Bank C.Validator (step_of (parts_view self.old) (parts_view self.new) request.old) (λ s given. effect_of s actor request.old given)
-            (reported_effect answer reply.new.bytes.list self.new.report note.new)) }
-        ensures room { IfOk result (λ answer. HasRoom 0 reply.new.packets (reported_effect answer reply.new.bytes.list self.new.report note.new)) }
+            (told_in reply.new self.new.report note)) }
+        ensures room { IfOk result (λ note. HasRoom 0 reply.new.packets (told_in reply.new self.new.report note)) }
         ensures request { OnOk result (request.new ≡ request.old) }
         ensures err { OnErr result (parts_view self.new ≡ parts_view self.old) }
     {
         match request {
-            Request::Validate { .. } => Ok(app_validate(&mut self.desk, &mut self.report, row)),
-            _ => self.activate(row, request, reply, note),
+            Request::Validate { .. } => {
+                let answer = app_validate(&mut self.desk, &mut self.report, row);
+                Ok(answered(reply, answer))
+            }
+            _ => self.activate(row, request, reply),
         }
     }
 
@@ -304,32 +311,27 @@ impl<B: Bank, C: Validator> Parts<B, C> {
         row: u8,
         request: &mut Request,
         reply: &mut Reply,
-        note: &mut Note,
-    ) -> Result<Answer, Memory>
+    ) -> Result<Note, Memory>
         requires activates { activates request.old ≡ true }
         requires table { IsSome (table_at self.old.desk.tables row) }
         requires ready { MayPlay C.Validator (parts_view self.old) }
         requires nothing { self.old.report ≡ nothing_reported }
         requires empty { IsEmptyReply reply.old }
-        requires untouched { note.old ≡ untouched }
-        ensures does { IfOk result (λ answer. DoesAndCopies B.Bank C.Validator (parts_view self.old) (parts_view self.new) row request.old
-            (reported_effect answer reply.new.bytes.list self.new.report note.new)) }
-        ensures room { IfOk result (λ answer. HasRoom 0 reply.new.packets (reported_effect answer reply.new.bytes.list self.new.report note.new)) }
+        ensures does { IfOk result (λ note. DoesAndCopies B.Bank C.Validator (parts_view self.old) (parts_view self.new) row request.old (told_in reply.new self.new.report note)) }
+        ensures room { IfOk result (λ note. HasRoom 0 reply.new.packets (told_in reply.new self.new.report note)) }
         ensures request { OnOk result (request.new ≡ request.old) }
         ensures err { OnErr result (parts_view self.new ≡ parts_view self.old) }
     {
-        let is_critical = copy_room(self.desk.alloc, &self.desk.tables, row, &mut self.copies)?;
+        copy_room(self.desk.alloc, &self.desk.tables, row, &mut self.copies)?;
         let answer = owned(&mut self.desk, reply, &mut self.report, row, request)?;
+        put_answer(reply, answer);
         Ok(then_copy(
             &mut self.desk.tables,
             &mut self.store,
             row,
-            is_critical,
             &mut self.copies,
-            answer,
-            &mut reply.bytes,
+            reply,
             &mut self.report,
-            note,
         ))
     }
 }

@@ -10,12 +10,13 @@ ghost use Rattle.tbl_core.specs.Answers.{moment_of, CanAnswer, Answered};
 ghost use Rattle.tbl_model.specs.Counts.{is_reset};
 ghost use Rattle.tbl_core.specs.Service.{Makes, Meets, parts_view, step_of};
 
-use crate::dispatch::put_answer;
+use crate::dispatch::answer_in;
 use crate::parts::Parts;
 use reply_packets::{Counters, tell_call};
-use request_effects::Effect;
-use store_requests::{cds_copy, cds_delete, cds_register, cds_restore, register};
-use tbl_kinds::{Bytes, Entry, Given, Memory, Request};
+use store_requests::{
+    Effect, Registration, cds_copy, cds_delete, cds_register, cds_restore, register,
+};
+use tbl_kinds::{Entry, Given, Memory, Request};
 use tbl_outside::{Bank, Validator};
 
 impl<B: Bank, C: Validator> Parts<B, C> {
@@ -35,12 +36,9 @@ impl<B: Bank, C: Validator> Parts<B, C> {
         let Request::Reset { kind } = &entry.request else {
             unreachable!();
         };
-        let empty = Bytes::make(self.desk.alloc, 0)?;
-        let effect = self.reset(*kind, empty)?;
+        let effect = self.reset(*kind)?;
         counters.begin_anew();
-        put_answer(&mut entry.reply, effect.answer);
-        entry.reply.bytes = effect.bytes;
-        entry.given = Given::of(effect.note, [None, None]);
+        entry.given = Given::of(effect.put(&mut entry.reply), [None, None]);
         Ok(())
     }
 
@@ -62,11 +60,9 @@ impl<B: Bank, C: Validator> Parts<B, C> {
         let clock = self.desk.clock;
         let Entry { request, reply, .. } = entry;
         let effect = self.app_store_request(app, request)?;
-        let answer = effect.answer;
-        let mut note = effect.note;
+        let mut note = effect.put(reply);
+        let answer = answer_in(reply);
         self.boot_if_stopped(&mut note);
-        put_answer(reply, answer);
-        reply.bytes = effect.bytes;
         let packets = &mut reply.packets;
         let tables = &self.desk.tables;
         tell_call(
@@ -93,37 +89,30 @@ impl<B: Bank, C: Validator> Parts<B, C> {
         ensures report { self.new.report ≡ self.old.report }
         ensures err { OnErr result (parts_view self.new ≡ parts_view self.old) }
     {
-        let alloc = self.desk.alloc;
-        let empty = Bytes::make(alloc, 0)?;
         let store = &mut self.store;
-        let apps = &self.desk.apps;
         match request {
             Request::Register {
                 name,
                 size,
                 flags,
                 validator,
-            } => register(
-                alloc,
-                &mut self.desk.tables,
-                store,
-                &self.desk.kit,
-                apps,
-                app,
-                name,
-                *size,
-                *flags,
-                *validator,
-                empty,
+            } => {
+                let asked = Registration {
+                    name: name.copy(),
+                    size: *size,
+                    flags: *flags,
+                    validator: *validator,
+                };
+                register(&mut self.desk, store, app, &asked)
+            }
+            Request::CdsRegister { name, size } => cds_register(
+                &self.desk, store, app, name, *size,
             ),
-            Request::CdsRegister { name, size } => {
-                cds_register(alloc, store, apps, app, name, *size, empty)
-            }
             Request::CdsCopy { slot, image } => {
-                cds_copy(alloc, store, apps, app, *slot, image.bytes(), empty)
+                cds_copy(&self.desk, store, app, *slot, image.bytes())
             }
-            Request::CdsRestore { slot } => cds_restore(alloc, store, apps, app, *slot, empty),
-            Request::CdsDelete { slot } => cds_delete(alloc, store, apps, app, *slot, empty),
+            Request::CdsRestore { slot } => cds_restore(&self.desk, store, app, *slot),
+            Request::CdsDelete { slot } => cds_delete(&self.desk, store, app, *slot),
             _ => unreachable!(),
         }
     }

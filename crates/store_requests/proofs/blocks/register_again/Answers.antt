@@ -1,50 +1,58 @@
-use Rattle.std.proofs.Common.{◌≡◌, ◌∙◌, refl, sym, true, false, Some, []}
-use Rattle.tbl_kinds.specs.declared.block.BlockKind.TheVariants.{App}
+use Rattle.std.proofs.Common.{◌≡◌, ◌∙◌, Some, true, false, refl, sym, rules}
 use Rattle.tbl_kinds.specs.StoreSteps.{stored_at, has_room}
-use Rattle.tbl_kinds.specs.declared.status.TheConstants.Status.{SUCCESS, ERR_CDS_NO_ROOM}
-use Rattle.tbl_model.specs.Effects.{answered}
-use Rattle.tbl_model.specs.StoreUse.{then_call}
-use Rattle.tbl_model.specs.AppBlocks.{faulted, has_size, new_slot, renewal, block_effect}
-use Rattle.cds_store.specs.Slots.{is_open_slot}
+use Rattle.tbl_kinds.specs.declared.block.BlockKind.TheVariants.{App}
+use Rattle.tbl_kinds.specs.declared.status.TheConstants.Status.{INFO_CDS_EXISTS, ERR_CDS_NO_ROOM}
+use Rattle.tbl_model.specs.AppBlocks.{has_size, block_effect}
 use Rattle.cds_store.proofs.Reservations.{open_same}
-use Rattle.store_requests.proofs.Calls.{told_with, calls_none, calls_same}
-use Rattle.store_requests.proofs.OwnBlocks.{found_there}
-use Rattle.store_requests.proofs.Reserved.{any_is, block_means, no_room}
-use Rattle.store_requests.proofs.Moments.{uncalled_leaves}
+use Rattle.store_requests.specs.BankCalls.{asks_renew}
+use Rattle.store_requests.specs.OwnBlocks.{renewing}
 use Rattle.store_requests.proofs.BankCalls.{bank_calls_none}
+use Rattle.store_requests.proofs.Promised.{asking_alone, made_as}
+use Rattle.store_requests.proofs.Reserved.{any_is, block_means, no_room, there_already}
 use Rattle.store_requests.proofs.blocks.register_again.Goals as goal
 
-pub returns-then-not-room-clause-effect : goal.returns-then-not-room-clause-effect
-returns-then-not-room-clause-effect g c = λ tells s stands.
+pub returns-then-has_size : goal.returns-then-has_size
+returns-then-has_size g c =
     let b = g.B.Bank in
+    let store = c.args.store.now in
+    let name = c.args.name.now in record {
+      served = asking_alone b g.met.B.Bank.leaves_only_now g.met.B.Bank.only_now store (λ s. s) (λ s stands. stands) (λ s n. block_effect s name c.args.size n (Some c.args.slot)) (asks_renew c.args.slot name c.args.size)
+          INFO_CDS_EXISTS c.args.slot c.of.result (search rules) (λ s stands n. there_already s name c.args.size n c.args.slot (sym (c.has_size.ensures s.store stands) ∙ c.if-has_size.true)) (search rules)
+          (λ blocks stands calls there. bank_calls_none b store.bank store.bank calls c.of.result.note refl c.of.ensures.note_is);
+    }
+
+pub returns-then-not-room : goal.returns-then-not-room
+returns-then-not-room g c =
+    let b = g.B.Bank in
+    let store = c.args.store.now in
+    let slot = c.args.slot in
+    let name = c.args.name.now in record {
+      served = asking_alone b g.met.B.Bank.leaves_only_now g.met.B.Bank.only_now store (λ s. s) (λ s stands. stands) (λ s n. block_effect s name c.args.size n (Some slot)) (asks_renew slot name c.args.size)
+          ERR_CDS_NO_ROOM 0 c.plain.result c.plain.ensures
+          (λ s stands n.
+          let other : has_size c.args.size (stored_at s.store slot) ≡ false = sym (c.has_size.ensures s.store stands) ∙ c.if-has_size.false in
+          let full : has_room c.args.size (Some slot) s.store ≡ false = sym (c.room.ensures s.store stands) ∙ c.if-not-room.true in
+          no_room s name c.args.size n (Some slot) (Some slot) (any_is s name (Some slot) (sym (open_same App name store.slots s.store stands.slots) ∙ c.requires.open_block)) other full) (search rules)
+          (λ blocks stands calls there. bank_calls_none b store.bank store.bank calls c.plain.result.note refl c.plain.ensures.note_is);
+    }
+
+pub renew-requires-clause-renewable : goal.renew-requires-clause-renewable
+renew-requires-clause-renewable g c = record { open_block = c.requires.open_block; room = λ blocks stands. sym (c.room.ensures blocks stands) ∙ c.if-not-room.false }
+
+pub returns : goal.returns
+returns g c =
+    let b = g.B.Bank in
+    let store = c.args.store.now in
     let slot = c.args.slot in
     let name = c.args.name.now in
-    let other : has_size c.args.size (stored_at s.store slot) ≡ false = sym (c.has_size.ensures s.store stands) ∙ c.if-has_size.false in
-    let full : has_room c.args.size (Some slot) s.store ≡ false = sym (c.room.ensures s.store stands) ∙ c.if-not-room.true in
-    let is = any_is s name (Some slot) (sym (open_same App name c.args.store.now.slots s.store stands.slots) ∙ c.requires.open_block) in
-    calls_same b c.args.store.now c.args.store.now s c.plain-then-not-room.result (λ n. answered s ERR_CDS_NO_ROOM 0) (λ n. block_effect s name c.args.size n (Some slot))
-    (λ n. no_room s name c.args.size n (Some slot) (Some slot) is other full)
-    (calls_none b c.args.store.now c.args.store.now s c.plain-then-not-room.result (uncalled_leaves b g.met.B.Bank.leaves_only_now g.met.B.Bank.only_now c.args.store.now c.args.store.now s.store refl (stands.shows tells)) (bank_calls_none b c.args.store.now.bank c.args.store.now.bank [] c.plain-then-not-room.result.note refl c.plain-then-not-room.ensures.note_is) ERR_CDS_NO_ROOM 0 (told_with c.requires.empty refl c.plain-then-not-room.ensures) stands)
-
-pub renew-requires-clause-taken : goal.renew-requires-clause-taken
-renew-requires-clause-taken g c = found_there (is_open_slot App c.args.name.now) c.args.store.now.slots c.args.slot refl c.requires.open_block
-
-pub returns-clause-effect : goal.returns-clause-effect
-returns-clause-effect g c = λ tells s stands.
-    let b = g.B.Bank in
-    let slot = c.args.slot in
-    let name = c.args.name.now in
-    let other : has_size c.args.size (stored_at s.store slot) ≡ false = sym (c.has_size.ensures s.store stands) ∙ c.if-has_size.false in
-    let room : has_room c.args.size (Some slot) s.store ≡ true = sym (c.room.ensures s.store stands) ∙ c.if-not-room.false in
-    let is = any_is s name (Some slot) (sym (open_same App name c.args.store.now.slots s.store stands.slots) ∙ c.requires.open_block) in
-    calls_same b c.args.store.now c.renew.new.store s c.renew.result (λ n. then_call (renewal App name c.args.size (Some slot)) n faulted (answered s SUCCESS (new_slot App name (Some slot) s.store))) (λ n. block_effect s name c.args.size n (Some slot))
-    (λ n. block_means s name c.args.size n (Some slot) (Some slot) is other room)
-    (c.renew.ensures.effect tells s stands)
-
-pub returns-then-has_size-clause-bank_calls : goal.returns-then-has_size-clause-bank_calls
-returns-then-has_size-clause-bank_calls g c = λ blocks stands calls there.
-    bank_calls_none g.B.Bank c.args.store.now.bank c.args.store.now.bank calls c.plain.result.note refl c.plain.ensures.note_is
-
-pub returns-then-not-room-clause-bank_calls : goal.returns-then-not-room-clause-bank_calls
-returns-then-not-room-clause-bank_calls g c = λ blocks stands calls there.
-    bank_calls_none g.B.Bank c.args.store.now.bank c.args.store.now.bank calls c.plain-then-not-room.result.note refl c.plain-then-not-room.ensures.note_is
+    let served = c.renew.ensures.served in record {
+      served = record {
+        made = made_as b store c.renew.new.store (λ s. s) (λ s stands. stands) (λ s. renewing s name c.args.size slot) (λ s n. block_effect s name c.args.size n (Some slot))
+            (λ s stands n.
+            let other : has_size c.args.size (stored_at s.store slot) ≡ false = sym (c.has_size.ensures s.store stands) ∙ c.if-has_size.false in
+            let room : has_room c.args.size (Some slot) s.store ≡ true = sym (c.room.ensures s.store stands) ∙ c.if-not-room.false in
+            block_means s name c.args.size n (Some slot) (Some slot) (any_is s name (Some slot) (sym (open_same App name store.slots s.store stands.slots) ∙ c.requires.open_block)) other room) c.renew.result served.made;
+        silent = served.silent;
+        bank_calls = served.bank_calls;
+      };
+    }

@@ -1,4 +1,4 @@
-use Rattle.std.proofs.Common.{ap, ◌∙◌, sym, ℕ}
+use Rattle.std.proofs.Common.{refl, rules, ap, ◌∙◌, sym, ℕ}
 use Rattle.tbl_kinds.specs.declared.block.BlockKind.TheVariants.{App}
 use Rattle.cds_store.proofs.Reservations.{open_same}
 use Rattle.store_requests.specs.Called.{reserve_note}
@@ -11,23 +11,26 @@ use Rattle.cds_layout.specs.Order.{reserve_calls}
 use Rattle.store_requests.proofs.BankCalls.{bank_calls_make, reserved_asked}
 use Rattle.store_requests.proofs.blocks.register_new.Goals as goal
 
-pub returns-clause-effect : goal.returns-clause-effect
-returns-clause-effect g c = λ tells s stands.
+pub returns : goal.returns
+returns g c =
     let b = g.B.Bank in
-    let made = c.reserve_block-made.ensures.reserves in
-    new_called b c.args.store.now c.args.store.now c.reserve_block-made.new.self s c.reserved.result c.args.name.now c.args.size c.reserve_block-made.result (λ m. made.moments m s.store stands)
-    (reserved_asked b c.args.store.now c.args.store.now c.reserve_block-made.new.self App c.args.name.now c.args.size c.reserved.result.note c.reserve_block-made.result s.store stands.slots (made.full s.store stands)
-    (c.reserved.ensures.note_is ∙ ap (reserve_note c.reserve_block-made.result) c.in_ok-note.ensures) made.untouched made.bank_calls)
-    (λ same. uncalled_leaves b g.met.B.Bank.leaves_only_now g.met.B.Bank.only_now c.args.store.now c.reserve_block-made.new.self s.store same (stands.shows tells))
-    (sym (open_same App c.args.name.now c.args.store.now.slots s.store stands.slots) ∙ c.requires.none_open) stands
-    made.ok made.slot made.full made.untouched made.err made.breaks
-    (told_with c.requires.empty (ap (reserve_note c.reserve_block-made.result) c.in_ok-note.ensures) c.reserved.ensures)
-
-pub returns-clause-bank_calls : goal.returns-clause-bank_calls
-returns-clause-bank_calls g c =
     let old = c.args.store.now in
+    let new = c.reserve_block-made.new.self in
     let made = c.reserve_block-made.ensures.reserves in
     let name = c.args.name.now in
+    let size = c.args.size in
     let doubtful = doubtful_slot App name old.slots in
-    bank_calls_make g.B.Bank old.bank c.reserve_block-made.new.self.bank c.reserved.result.note (room_in c.args.size (without_slot doubtful old.slots)) (λ (place : ℕ × ℕ). reserve_calls doubtful place.0 (record { kind = App; offset = place.1; size = c.args.size; name = name }))
-    c.reserve_block-made.result (c.reserved.ensures.note_is ∙ ap (reserve_note c.reserve_block-made.result) c.in_ok-note.ensures) (λ lacks. ap (λ (store : StoreParts g.row.B.Denot). store.bank) (made.untouched lacks)) made.bank_calls
+    let told = told_with refl (ap (reserve_note c.reserve_block-made.result) c.in_ok-note.ensures) c.reserved.ensures in record {
+      served = record {
+        made = record {
+          effect = λ tells s stands. new_called b old old new s c.reserved.result name size c.reserve_block-made.result (λ m. made.moments m s.store stands)
+              (reserved_asked b old old new App name size c.reserved.result.note c.reserve_block-made.result s.store stands.slots (made.full s.store stands) told.note_is made.untouched made.bank_calls)
+              (λ same. uncalled_leaves b g.met.B.Bank.leaves_only_now g.met.B.Bank.only_now old new s.store same (stands.shows tells)) (sym (open_same App name old.slots s.store stands.slots) ∙ c.requires.none_open) stands
+              made.ok made.slot made.full made.untouched made.err made.breaks told;
+          call = search rules;
+        };
+        silent = told.silent;
+        bank_calls = bank_calls_make b old.bank new.bank c.reserved.result.note (room_in size (without_slot doubtful old.slots)) (λ (place : ℕ × ℕ). reserve_calls doubtful place.0 (record { kind = App; offset = place.1; size = size; name = name }))
+            c.reserve_block-made.result told.note_is (λ lacks. ap (λ (store : StoreParts g.row.B.Denot). store.bank) (made.untouched lacks)) made.bank_calls;
+      };
+    }

@@ -1,67 +1,56 @@
-use Rattle.std.proofs.Common.{refl, ◌≡◌, ◌∙◌, Some, None, sym, ap, rules, [], ◌∷◌}
-use Rattle.tbl_model.specs.Copies.{block_of, copied_to}
-use Rattle.store_requests.proofs.CopyEnds.{stays, with_note, copied_after, same_copies, copied_call, copied_room, uncopied_call, same_room}
-use Rattle.store_requests.proofs.Moments.{unmoved}
-use Rattle.tbl_laws.proofs.Crashes.{before_calls}
-use Rattle.tbl_session.specs.Crashes.{DuringCalls}
-use Rattle.tbl_kinds.specs.StoreCalls.{StoreCall}
-use Rattle.std.specs.Prelude.{List, true}
-use Rattle.request_effects.specs.Effects.{told_effect, reported_effect}
-use Rattle.std.specs.Prelude.{is_ok, length}
+use Rattle.std.proofs.Common.{refl, ◌≡◌, ◌∙◌, Some, None, sym, ap, rules, [], ◌∷◌, length}
+use Rattle.std.specs.Prelude.{is_ok}
+use Rattle.tbl_kinds.specs.Notes.{untouched}
 use Rattle.tbl_kinds.specs.StoreCalls.{copy}
+use Rattle.tbl_model.specs.Copies.{block_of, copied_to}
 use Rattle.tbl_outside.specs.BankCalls.{Asks}
 use Rattle.cds_layout.specs.Images.{spelled}
 use Rattle.cds_layout.specs.Order.{copy_calls}
 use Rattle.cds_store.specs.Sound.{slot_at}
 use Rattle.cds_store.specs.declared.slot.Slot.{Slot}
 use Rattle.store_requests.specs.BankCalls.{AsksIn, copy_at}
+use Rattle.store_requests.specs.Copying.{told_in}
 use Rattle.store_requests.proofs.BankCalls.{at_open, asked_one, bank_calls_once}
+use Rattle.store_requests.proofs.CopyEnds.{copied_after, same_copies, copied_call, copied_room, uncopied, keeps_room}
 use Rattle.store_requests.proofs.copies.copy_image.Goals as goal
 
-pub returns-in_default-clause-copies : goal.returns-in_default-clause-copies
-returns-in_default-clause-copies g c = λ tells e t is named sized stands.
+pub returns-in_default : goal.returns-in_default
+returns-in_default g c =
     let b = g.B.Bank in
     let store = c.args.store.now in
-    let before = told_effect c.args.answer c.args.bytes.now.list c.args.report.now in
-    let none : block_of t e.next.store ≡ None = sym (c.sized_block.ensures.block t e.next.store named (sized ∙ ap length (sym c.bytes.ensures)) stands) ∙ (search rules) in
-    with_note b store store e before is (λ n. copied_to c.args.row n e (block_of t e.next.store) (Some c.args.image.now)) c.args.note.now c.requires.untouched
-    (stays b store store e before is (unmoved b g.met.B.Bank.leaves_only_now g.met.B.Bank.only_now store store (λ left. (calls : List StoreCall) → DuringCalls calls e.next.store left) refl (λ calls. before_calls calls e.next.store _ (stands.shows tells))) refl (λ n. copied_to c.args.row n e (block_of t e.next.store) (Some c.args.image.now)) (λ n. ap (λ o. copied_to c.args.row n e o (Some c.args.image.now)) none) refl stands)
+    let before = told_in c.args.reply.now c.args.report.now untouched in
+    let image = c.args.image.now in record {
+      copied = λ t. uncopied b g.met.B.Bank.leaves_only_now g.met.B.Bank.only_now store before c.untouched.result c.requires.booted refl c.untouched.ensures _ (λ e n. copied_to c.args.row n e (block_of t e.next.store) (Some image))
+          (λ e of stands events n.
+          let none : block_of t e.next.store ≡ None = sym (c.sized_block.ensures.block t e.next.store of.0 (of.1 ∙ ap length (sym c.bytes.ensures)) stands) ∙ (search rules) in
+          ap (λ o. copied_to c.args.row n e o (Some image)) none);
+      room = keeps_room 24 before c.untouched.result;
+      packets = refl;
+    }
 
-pub returns-in_default-clause-call : goal.returns-in_default-clause-call
-returns-in_default-clause-call g c =
-    uncopied_call g.B.Bank c.args.store.now (told_effect c.args.answer c.args.bytes.now.list c.args.report.now) c.args.note.now c.requires.booted c.requires.untouched
-
-pub returns-in_default-clause-room : goal.returns-in_default-clause-room
-returns-in_default-clause-room g c = λ packets had.
-    same_room true packets (told_effect c.args.answer c.args.bytes.now.list c.args.report.now) c.args.note.now had
-
-pub returns-clause-copies : goal.returns-clause-copies
-returns-clause-copies g c = λ tells e t is named sized stands.
+pub returns : goal.returns
+returns g c =
     let b = g.B.Bank in
+    let store = c.args.store.now in
+    let new = c.copy-ended.new.self in
     let slot = c.in-Some.slot in
-    let before = told_effect c.args.answer c.args.bytes.now.list c.args.report.now in
-    let done = reported_effect c.copied.result c.copied.new.bytes.list c.copied.new.report c.copied.new.note in
-    let there : block_of t e.next.store ≡ Some slot = sym (c.sized_block.ensures.block t e.next.store named (sized ∙ ap length (sym c.bytes.ensures)) stands) ∙ (search rules) in
-    let ended = c.copy-ended.ensures.copies in
-    let store = c.args.store.now in
     let image = c.args.image.now in
+    let before = told_in c.args.reply.now c.args.report.now untouched in
+    let done = told_in c.copied.new.reply c.copied.new.report c.copied.result in
+    let ended = c.copy-ended.ensures.copies in
     let calls = λ (s : Slot). copy_calls (b.now store.bank) slot s.block (spelled s.block.size image) in
-    let asked : AsksIn b store c.copy-ended.new.self c.copied.new.note.outcome (copy slot image ∷ []) = asked_one b store.bank c.copy-ended.new.self.bank c.copied.new.note.outcome (copy_at (b.now store.bank) store.slots slot image)
-    (bank_calls_once b store.bank c.copy-ended.new.self.bank (copy_at (b.now store.bank) store.slots slot image) c.copied.new.note c.copy-ended.result c.copied.ensures.note
-    (at_open (slot_at store.slots slot) (length image) calls (λ list. Asks b.tells_calls b.calls store.bank c.copy-ended.new.self.bank (is_ok c.copy-ended.result) list) (rw c.bytes.ensures at c.in-Some.ensures.sized) (ended.bank_calls tells))) in
-    same_copies b c.args.store.now c.copy-ended.new.self e before is done (λ n. copied_to c.args.row n e (Some slot) (Some c.args.image.now)) (λ n. copied_to c.args.row n e (block_of t e.next.store) (Some c.args.image.now))
-    (λ n. ap (λ o. copied_to c.args.row n e o (Some c.args.image.now)) there)
-    (copied_after b c.args.store.now c.copy-ended.new.self e before is c.args.store.now c.args.row slot c.args.image.now done c.copy-ended.result (λ m. ended.moments m e.next.store stands) asked stands ended.breaks ended.ok ended.err c.copied.ensures)
-
-pub returns-clause-call : goal.returns-clause-call
-returns-clause-call g c =
-    let b = g.B.Bank in
-    let before = told_effect c.args.answer c.args.bytes.now.list c.args.report.now in
-    let done = reported_effect c.copied.result c.copied.new.bytes.list c.copied.new.report c.copied.new.note in
-    copied_call b c.args.store.now c.copy-ended.new.self before done c.args.row c.in-Some.slot c.copy-ended.result c.copy-ended.ensures.copies.booted (search rules) (search rules) c.copy-ended.ensures.copies.counted c.copied.ensures
-
-pub returns-clause-room : goal.returns-clause-room
-returns-clause-room g c = λ packets had.
-    let before = told_effect c.args.answer c.args.bytes.now.list c.args.report.now in
-    let done = reported_effect c.copied.result c.copied.new.bytes.list c.copied.new.report c.copied.new.note in
-    copied_room c.args.row c.in-Some.slot c.copy-ended.result before done c.copied.ensures packets had
+    let told = c.copied.ensures.copied in record {
+      copied = λ t. record {
+        effect = λ tells e is of stands.
+            let there : block_of t e.next.store ≡ Some slot = sym (c.sized_block.ensures.block t e.next.store of.0 (of.1 ∙ ap length (sym c.bytes.ensures)) stands) ∙ (search rules) in
+            let asked : AsksIn b store new c.copied.result.outcome (copy slot image ∷ []) = asked_one b store.bank new.bank c.copied.result.outcome (copy_at (b.now store.bank) store.slots slot image)
+            (bank_calls_once b store.bank new.bank (copy_at (b.now store.bank) store.slots slot image) c.copied.result c.copy-ended.result told.note
+            (at_open (slot_at store.slots slot) (length image) calls (λ list. Asks b.tells_calls b.calls store.bank new.bank (is_ok c.copy-ended.result) list) (rw c.bytes.ensures at c.in-Some.ensures.sized) (ended.bank_calls tells))) in
+            same_copies b store new e before is done (λ n. copied_to c.args.row n e (Some slot) (Some image)) (λ n. copied_to c.args.row n e (block_of t e.next.store) (Some image))
+            (λ n. ap (λ o. copied_to c.args.row n e o (Some image)) there)
+            (copied_after b store new e before is store c.args.row slot image done c.copy-ended.result (λ m. ended.moments m e.next.store stands) asked stands ended.breaks ended.ok ended.err told);
+        call = copied_call b store new before done c.args.row slot c.copy-ended.result ended.booted ended.steady.fault_count ended.steady.stop_count ended.counted told;
+      };
+      room = copied_room c.args.row slot c.copy-ended.result before done told;
+      packets = c.copied.ensures.packets;
+    }

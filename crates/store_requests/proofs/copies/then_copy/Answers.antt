@@ -1,90 +1,79 @@
-use Rattle.std.proofs.Common.{refl, ◌≡◌, ◌∙◌, Some, Option, Bool, true, cond, sym, ap, subst, rules}
-use Rattle.std.specs.Prelude.{IfSome, option_and_then, List, false}
+use Rattle.std.proofs.Common.{refl, ◌≡◌, ◌∙◌, Bool, Some, true, cond, sym, ap, subst, rules}
+use Rattle.std.specs.Prelude.{option_and_then, false}
+use Rattle.tbl_kinds.specs.Notes.{untouched}
 use Rattle.tbl_model.specs.State.{Table}
-use Rattle.tbl_model.specs.Tables.{table_at, is_critical}
+use Rattle.tbl_model.specs.Tables.{table_at, is_critical, is_critical_in}
 use Rattle.tbl_model.specs.Copies.{block_of, copied_to, then_copy}
-use Rattle.store_requests.proofs.CopyEnds.{stays, with_note, same_copies, none_active, none_critical, none_there, none_named, named_there, one_there, went_as, uncopied_call, same_room}
-use Rattle.store_requests.proofs.Moments.{unmoved}
-use Rattle.tbl_laws.proofs.Crashes.{before_calls}
-use Rattle.tbl_session.specs.Crashes.{DuringCalls}
-use Rattle.tbl_kinds.specs.StoreCalls.{StoreCall}
-use Rattle.request_effects.specs.Effects.{HasRoom, told_effect, reported_effect}
+use Rattle.store_requests.specs.Copying.{KeepsRoom, told_in}
+use Rattle.store_requests.proofs.CopyEnds.{same_copies, uncopied, keeps_room}
+use Rattle.store_requests.proofs.WhichCopied.{none_active, none_critical, none_there, none_named, named_there, one_there, went_as}
 use Rattle.store_requests.proofs.copies.then_copy.Goals as goal
 
--- the table isn't critical
-pub returns-then-not-is_critical-clause-copies : goal.returns-then-not-is_critical-clause-copies
-returns-then-not-is_critical-clause-copies g c = λ tells e is same stands.
-    let b = g.B.Bank in
-    let store = c.args.store.now in
-    let before = told_effect c.args.answer c.args.bytes.now.list c.args.report.now in
-    with_note b store store e before is (λ n. then_copy c.args.row n e) c.args.note.now c.requires.untouched
-    (stays b store store e before is (unmoved b g.met.B.Bank.leaves_only_now g.met.B.Bank.only_now store store (λ left. (calls : List StoreCall) → DuringCalls calls e.next.store left) refl (λ calls. before_calls calls e.next.store _ (stands.shows tells))) refl (λ n. then_copy c.args.row n e) (λ n. none_critical c.args.row n e c.args.tables.now same (subst (λ (b : Bool). IfSome (table_at c.args.tables.now c.args.row) (λ t. b ≡ is_critical t)) (search rules) c.requires.critical)) refl stands)
-
-pub returns-then-not-is_critical-clause-call : goal.returns-then-not-is_critical-clause-call
-returns-then-not-is_critical-clause-call g c = uncopied_call g.B.Bank c.args.store.now (told_effect c.args.answer c.args.bytes.now.list c.args.report.now) c.args.note.now c.requires.booted c.requires.untouched
-
-pub returns-then-not-is_critical-clause-room : goal.returns-then-not-is_critical-clause-room
-returns-then-not-is_critical-clause-room g c = λ packets had. same_room c.args.is_critical packets (told_effect c.args.answer c.args.bytes.now.list c.args.report.now) c.args.note.now had
-
 -- no image went active
-pub returns-then-not-went_active-clause-copies : goal.returns-then-not-went_active-clause-copies
-returns-then-not-went_active-clause-copies g c = λ tells e is same stands.
-    let b = g.B.Bank in
-    let store = c.args.store.now in
-    let before = told_effect c.args.answer c.args.bytes.now.list c.args.report.now in
-    with_note b store store e before is (λ n. then_copy c.args.row n e) c.args.note.now c.requires.untouched
-    (stays b store store e before is (unmoved b g.met.B.Bank.leaves_only_now g.met.B.Bank.only_now store store (λ left. (calls : List StoreCall) → DuringCalls calls e.next.store left) refl (λ calls. before_calls calls e.next.store _ (stands.shows tells))) refl (λ n. then_copy c.args.row n e) (λ n. none_active c.args.row n e c.args.tables.now same (went_as e c.args.report.now.events false is.events (search rules))) refl stands)
+pub returns-then-not-went_active : goal.returns-then-not-went_active
+returns-then-not-went_active g c =
+    let before = told_in c.args.reply.now c.args.report.now untouched in record {
+      copied = uncopied g.B.Bank g.met.B.Bank.leaves_only_now g.met.B.Bank.only_now c.args.store.now before c.untouched.result c.requires.booted refl c.untouched.ensures _ (λ e n. then_copy c.args.row n e)
+          (λ e same stands events n. none_active c.args.row n e c.args.tables.now same (went_as e c.args.report.now.events false events (search rules)));
+      room = keeps_room _ before c.untouched.result;
+      packets = refl;
+      same = refl;
+    }
 
-pub returns-then-not-went_active-clause-call : goal.returns-then-not-went_active-clause-call
-returns-then-not-went_active-clause-call g c = uncopied_call g.B.Bank c.args.store.now (told_effect c.args.answer c.args.bytes.now.list c.args.report.now) c.args.note.now c.requires.booted c.requires.untouched
-
-pub returns-then-not-went_active-clause-room : goal.returns-then-not-went_active-clause-room
-returns-then-not-went_active-clause-room g c = λ packets had. same_room c.args.is_critical packets (told_effect c.args.answer c.args.bytes.now.list c.args.report.now) c.args.note.now had
+-- the table isn't critical
+pub returns-then-not-is_critical : goal.returns-then-not-is_critical
+returns-then-not-is_critical g c =
+    let before = told_in c.args.reply.now c.args.report.now untouched in record {
+      copied = uncopied g.B.Bank g.met.B.Bank.leaves_only_now g.met.B.Bank.only_now c.args.store.now before c.untouched-then-not-is_critical.result c.requires.booted refl c.untouched-then-not-is_critical.ensures _ (λ e n. then_copy c.args.row n e)
+          (λ e same stands events n. none_critical c.args.row n e c.args.tables.now same (search rules));
+      room = keeps_room _ before c.untouched-then-not-is_critical.result;
+      packets = refl;
+      same = refl;
+    }
 
 -- there is no table
-pub returns-in_default-clause-copies : goal.returns-in_default-clause-copies
-returns-in_default-clause-copies g c = λ tells e is same stands.
-    let b = g.B.Bank in
-    let store = c.args.store.now in
-    let before = told_effect c.args.answer c.args.bytes.now.list c.args.report.now in
-    with_note b store store e before is (λ n. then_copy c.args.row n e) c.args.note.now c.requires.untouched
-    (stays b store store e before is (unmoved b g.met.B.Bank.leaves_only_now g.met.B.Bank.only_now store store (λ left. (calls : List StoreCall) → DuringCalls calls e.next.store left) refl (λ calls. before_calls calls e.next.store _ (stands.shows tells))) refl (λ n. then_copy c.args.row n e) (λ n. none_named c.args.row n e c.args.tables.now same (search rules)) refl stands)
-
-pub returns-in_default-clause-call : goal.returns-in_default-clause-call
-returns-in_default-clause-call g c = uncopied_call g.B.Bank c.args.store.now (told_effect c.args.answer c.args.bytes.now.list c.args.report.now) c.args.note.now c.requires.booted c.requires.untouched
-
-pub returns-in_default-clause-room : goal.returns-in_default-clause-room
-returns-in_default-clause-room g c = λ packets had. same_room c.args.is_critical packets (told_effect c.args.answer c.args.bytes.now.list c.args.report.now) c.args.note.now had
+pub returns-in_default : goal.returns-in_default
+returns-in_default g c =
+    let before = told_in c.args.reply.now c.args.report.now untouched in record {
+      copied = uncopied g.B.Bank g.met.B.Bank.leaves_only_now g.met.B.Bank.only_now c.args.store.now before c.untouched-in_default.result c.requires.booted refl c.untouched-in_default.ensures _ (λ e n. then_copy c.args.row n e)
+          (λ e same stands events n. none_named c.args.row n e c.args.tables.now same (search rules));
+      room = keeps_room _ before c.untouched-in_default.result;
+      packets = refl;
+      same = search rules;
+    }
 
 -- it has no image
-pub returns-in_default-last_checked-clause-copies : goal.returns-in_default-last_checked-clause-copies
-returns-in_default-last_checked-clause-copies g c = λ tells e is same stands.
+pub returns-in_default-last_checked : goal.returns-in_default-last_checked
+returns-in_default-last_checked g c =
+    let before = told_in c.args.reply.now c.args.report.now untouched in record {
+      copied = uncopied g.B.Bank g.met.B.Bank.leaves_only_now g.met.B.Bank.only_now c.args.store.now before c.untouched-in_default-last_checked.result c.requires.booted refl c.untouched-in_default-last_checked.ensures _ (λ e n. then_copy c.args.row n e)
+          (λ e same stands events n. none_there c.args.row n e c.args.tables.now same (search rules));
+      room = keeps_room _ before c.untouched-in_default-last_checked.result;
+      packets = refl;
+      same = search rules;
+    }
+
+pub returns : goal.returns
+returns g c =
     let b = g.B.Bank in
-    let store = c.args.store.now in
-    let before = told_effect c.args.answer c.args.bytes.now.list c.args.report.now in
-    with_note b store store e before is (λ n. then_copy c.args.row n e) c.args.note.now c.requires.untouched
-    (stays b store store e before is (unmoved b g.met.B.Bank.leaves_only_now g.met.B.Bank.only_now store store (λ left. (calls : List StoreCall) → DuringCalls calls e.next.store left) refl (λ calls. before_calls calls e.next.store _ (stands.shows tells))) refl (λ n. then_copy c.args.row n e) (λ n. none_there c.args.row n e c.args.tables.now same (search rules)) refl stands)
-
-pub returns-in_default-last_checked-clause-call : goal.returns-in_default-last_checked-clause-call
-returns-in_default-last_checked-clause-call g c = uncopied_call g.B.Bank c.args.store.now (told_effect c.args.answer c.args.bytes.now.list c.args.report.now) c.args.note.now c.requires.booted c.requires.untouched
-
-pub returns-in_default-last_checked-clause-room : goal.returns-in_default-last_checked-clause-room
-returns-in_default-last_checked-clause-room g c = λ packets had. same_room c.args.is_critical packets (told_effect c.args.answer c.args.bytes.now.list c.args.report.now) c.args.note.now had
-
-pub returns-clause-copies : goal.returns-clause-copies
-returns-clause-copies g c = λ tells e is same stands.
-    let b = g.B.Bank in
-    let before = told_effect c.args.answer c.args.bytes.now.list c.args.report.now in
-    let done = reported_effect c.copy_image.result c.copy_image.new.bytes.list c.copy_image.new.report c.copy_image.new.note in
-    let t = named_there (table_at c.args.tables.now c.args.row) c.in-Some.name.now (search rules) in
-    let last : Some c.in-Some-last_checked.image ≡ t.0.last = (search rules) ∙ ap (option_and_then (λ (t : Table). t.last)) t.1 in
-    let told : c.args.is_critical ≡ true = (search rules) in
-    let critical : true ≡ is_critical t.0 = sym told ∙ subst (λ (o : Option Table). IfSome o (λ t. c.args.is_critical ≡ is_critical t)) t.1 c.requires.critical in
-    same_copies b c.args.store.now c.copy_image.new.store e before is done (λ n. copied_to c.args.row n e (block_of t.0 e.next.store) (Some c.in-Some-last_checked.image)) (λ n. then_copy c.args.row n e)
-    (λ n. one_there c.args.row n e c.args.tables.now same t.0 c.in-Some-last_checked.image (went_as e c.args.report.now.events true is.events (search rules)) t.1 critical last)
-    (c.copy_image.ensures.copies tells e t.0 is t.2 (search rules) stands)
-
-pub returns-clause-room : goal.returns-clause-room
-returns-clause-room g c = λ packets had.
-    let told : c.args.is_critical ≡ true = (search rules) in
-    c.copy_image.ensures.room packets (subst (λ (b : Bool). HasRoom (cond b 24 0) packets (told_effect c.args.answer c.args.bytes.now.list c.args.report.now)) told had)
+    let row = c.args.row in
+    let tables = c.args.tables.now in
+    let before = told_in c.args.reply.now c.args.report.now untouched in
+    let done = told_in c.copy_image.new.reply c.copy_image.new.report c.copy_image.result in
+    let image = c.in-Some-last_checked.image in
+    let t = named_there (table_at tables row) c.in-Some.name.now (search rules) in
+    let last : Some image ≡ t.0.last = (search rules) ∙ ap (option_and_then (λ (t : Table). t.last)) t.1 in
+    let marked : is_critical_in (table_at tables row) ≡ true = search rules in
+    let critical : true ≡ is_critical t.0 = sym marked ∙ ap is_critical_in t.1 in
+    let copied = c.copy_image.ensures.copied t.0 in record {
+      copied = record {
+        effect = λ tells e is same stands.
+            same_copies b c.args.store.now c.copy_image.new.store e before is done (λ n. copied_to row n e (block_of t.0 e.next.store) (Some image)) (λ n. then_copy row n e)
+            (λ n. one_there row n e tables same t.0 image (went_as e c.args.report.now.events true is.events (search rules)) t.1 critical last)
+            (copied.effect tells e is (t.2, search rules) stands);
+        call = copied.call;
+      };
+      room = subst (λ (b : Bool). KeepsRoom (cond b 24 0) before done) (sym marked) c.copy_image.ensures.room;
+      packets = c.copy_image.ensures.packets;
+      same = search rules;
+    }

@@ -1,32 +1,44 @@
-use Rattle.std.proofs.Common.{◌∙◌, ℕ, Option, refl, sym, subst, IfOk, [], ◌∷◌}
-use Rattle.tbl_kinds.specs.StoreCalls.{delete}
+use Rattle.std.proofs.Common.{◌∙◌, ℕ, Option, refl, sym, subst, rules}
 use Rattle.tbl_kinds.specs.declared.block.BlockKind.TheVariants.{Table}
-use Rattle.tbl_kinds.specs.declared.status.TheConstants.Status.{SUCCESS}
-use Rattle.tbl_model.specs.Effects.{answered}
-use Rattle.tbl_model.specs.StoreUse.{then_call}
-use Rattle.tbl_model.specs.AppBlocks.{faulted, any_of, delete_table_block}
-use Rattle.store_requests.proofs.Both.{one}
-use Rattle.store_requests.proofs.Calls.{calls_same}
-use Rattle.store_requests.proofs.OwnBlocks.{table_means}
-use Rattle.store_requests.proofs.BankCalls.{bank_calls_none}
-use Rattle.store_requests.specs.BankCalls.{AsksBy, delete_named}
+use Rattle.tbl_kinds.specs.declared.status.TheConstants.Status.{ERR_CDS_NOT_FOUND, ERR_TABLE_ACTIVE}
+use Rattle.tbl_model.specs.AppBlocks.{any_of, delete_table_block}
 use Rattle.cds_layout.specs.Order.{close_calls}
+use Rattle.store_requests.specs.BankCalls.{AsksBy, asks_delete, asks_delete_named, delete_named}
+use Rattle.store_requests.specs.OwnBlocks.{deleting}
+use Rattle.store_requests.proofs.BankCalls.{bank_calls_none}
+use Rattle.store_requests.proofs.OwnBlocks.{none_means, active_means, table_means}
+use Rattle.store_requests.proofs.Promised.{asking_alone, served_as}
 use Rattle.store_requests.proofs.table_blocks.delete_table_block.Goals as goal
 
-pub returns-in-Some-2-clause-effect : goal.returns-in-Some-2-clause-effect
-returns-in-Some-2-clause-effect g c = one c.delete.result _ _ c.delete.ensures.effect (λ done is tells s row registered stands.
+pub returns-in-None : goal.returns-in-None
+returns-in-None g c =
     let b = g.B.Bank in
-    let any = any_of Table c.args.name.now s.store in
-    let slot = c.in-Some.field-0 in
-    calls_same b c.args.store.now c.delete.new.store s done (λ n. then_call (delete slot ∷ []) n faulted (answered s SUCCESS 0)) (λ n. delete_table_block s n any row)
-    (λ n. table_means s n any row slot (sym (c.table_block.ensures.block s.store stands) ∙ c.in-Some.is) (registered ∙ c.if-is_registered.false)) (is tells s stands))
+    let store = c.args.store.now in
+    let name = c.args.name.now in record {
+      served = λ row registered. asking_alone b g.met.B.Bank.leaves_only_now g.met.B.Bank.only_now store (λ s. s) (λ s stands. stands) (λ s n. delete_table_block s n (any_of Table name s.store) row) (asks_delete_named name)
+          ERR_CDS_NOT_FOUND 0 c.plain.result c.plain.ensures (λ s stands n. none_means s n (any_of Table name s.store) row (sym (c.table_block.ensures.block s.store stands) ∙ c.in-None.is)) (search rules)
+          (bank_calls_none b store.bank store.bank (delete_named store.slots name) c.plain.result.note refl c.plain.ensures.note_is);
+    }
 
-pub returns-in-Some-2-clause-bank_calls : goal.returns-in-Some-2-clause-bank_calls
-returns-in-Some-2-clause-bank_calls g c =
-    let old = c.args.store.now in
-    subst (λ (o : Option ℕ). IfOk c.delete.result (λ done. AsksBy g.B.Bank old.bank c.delete.new.store.bank done.note.outcome (close_calls o))) (sym c.in-Some.is ∙ c.table_block.ensures.slot) c.delete.ensures.bank_calls
+pub returns-in-Some : goal.returns-in-Some
+returns-in-Some g c =
+    let b = g.B.Bank in
+    let store = c.args.store.now in
+    let name = c.args.name.now in
+    let slot = c.in-Some.field-0 in record {
+      served = λ row registered. asking_alone b g.met.B.Bank.leaves_only_now g.met.B.Bank.only_now store (λ s. s) (λ s stands. stands) (λ s n. delete_table_block s n (any_of Table name s.store) row) (asks_delete_named name)
+          ERR_TABLE_ACTIVE 0 c.plain-in-Some.result c.plain-in-Some.ensures (λ s stands n. active_means s n (any_of Table name s.store) row slot (sym (c.table_block.ensures.block s.store stands) ∙ c.in-Some.is) (registered ∙ c.if-is_registered.true)) (search rules)
+          (bank_calls_none b store.bank store.bank (delete_named store.slots name) c.plain-in-Some.result.note refl c.plain-in-Some.ensures.note_is);
+    }
 
-pub returns-in-None-clause-bank_calls : goal.returns-in-None-clause-bank_calls
-returns-in-None-clause-bank_calls g c =
+pub returns-in-Some-2 : goal.returns-in-Some-2
+returns-in-Some-2 g c =
+    let b = g.B.Bank in
     let old = c.args.store.now in
-    bank_calls_none g.B.Bank old.bank old.bank (delete_named old.slots c.args.name.now) c.plain.result.note refl c.plain.ensures.note_is
+    let new = c.delete.new.store in
+    let name = c.args.name.now in
+    let slot = c.in-Some.field-0 in record {
+      served = λ row registered. served_as b old new (λ s. s) (λ s stands. stands) (λ s. deleting s slot) (λ s n. delete_table_block s n (any_of Table name s.store) row)
+          (λ s stands n. table_means s n (any_of Table name s.store) row slot (sym (c.table_block.ensures.block s.store stands) ∙ c.in-Some.is) (registered ∙ c.if-is_registered.false)) (asks_delete slot) (asks_delete_named name)
+          (λ outcome asked. subst (λ (o : Option ℕ). AsksBy b old.bank new.bank outcome (close_calls o)) (sym c.in-Some.is ∙ c.table_block.ensures.slot) asked) c.delete.result c.delete.ensures.served;
+    }

@@ -3,7 +3,9 @@ use Rattle.tbl_kinds.specs.declared.request.Request.TheVariants as ask
 use Rattle.tbl_kinds.specs.declared.note.Outcome.TheVariants.{Untouched}
 use Rattle.tbl_model.specs.Boots.{reset_effect}
 use Rattle.tbl_model.specs.Counts.{is_stopped}
-use Rattle.request_effects.specs.Effects.{Effect, told_at, noted_effect}
+use Rattle.request_effects.specs.Effects.{Effect, told_at}
+use Rattle.request_effects.specs.Reports.{nothing_reported}
+use Rattle.store_requests.specs.Copying.{told_in}
 use Rattle.tbl_core.specs.Service.{parts_view, step_of, Makes, Meets}
 use Rattle.tbl_core.proofs.Answering.{made_plainly}
 use Rattle.tbl_core.proofs.Nothing.{either}
@@ -16,15 +18,16 @@ returns g c =
     let kind = c.in-Reset.kind in
     let old = parts_view c.args.self.now in
     let new = parts_view c.reset.new.self in
-    let done = noted_effect c.effect.inside.answer c.effect.inside.bytes.list c.effect.inside.note in
-    let makes = subst (λ (e : Effect). Makes b v (ask.Reset kind) old new e) (sym c.effect.view_is) c.in_ok-effect.ensures.makes in
-    let meets = subst (λ (e : Effect). Meets b v (step_of old new (ask.Reset kind)) (λ s given. Some (reset_effect s kind given.note)) e) (sym c.effect.view_is) c.in_ok-effect.ensures.meets in
+    let done = told_in c.put.new.reply nothing_reported c.put.result in
+    let same = sym c.put.ensures.told in
+    let makes = subst (λ (e : Effect). Makes b v (ask.Reset kind) old new e) same c.in_ok-effect.ensures.makes in
+    let meets = subst (λ (e : Effect). Meets b v (step_of old new (ask.Reset kind)) (λ s given. Some (reset_effect s kind given.note)) e) same c.in_ok-effect.ensures.meets in
     let t = told_at c.args.self.now.desk.clock.seconds c.args.self.now.desk.clock.sub c.reset.new.self.desk.tables (ask.Reset kind) done in
-    rw (c.of.ensures, c.reset.ensures.report, c.requires.nothing, c.put_answer.ensures, c.requires.actor, c.in-Reset.is, c.requires.stands.begun.reply.no_packets) (record {
+    rw (c.of.ensures, c.put.ensures.packets, c.reset.ensures.report, c.requires.nothing, c.requires.actor, c.in-Reset.is, c.requires.stands.begun.reply.no_packets) (record {
       answered = record {
         actor_is = refl;
         request_is = refl;
-        made = made_plainly b v old new (ask.Reset kind) (λ s given. Some (reset_effect s kind given.note)) done makes meets (subst (λ (e : Effect). e.note.outcome ≡ Untouched) (sym c.effect.view_is) c.in_ok-effect.ensures.no_call);
+        made = made_plainly b v old new (ask.Reset kind) (λ s given. Some (reset_effect s kind given.note)) done makes meets (subst (λ (e : Effect). e.note.outcome ≡ Untouched) same c.in_ok-effect.ensures.no_call);
         told = record { counts = c.begin_anew.ensures t refl; packets = sym (either (is_stopped t.effect) []) };
         small = record { bytes = makes.within.bytes; packets = omega arith };
       };

@@ -17,18 +17,19 @@ returns g c =
     let old = parts_view c.args.self.now in
     let mid = parts_view c.app_store_request.new.self in
     let boot = c.boot_if_stopped.ensures in
-    let makes = subst (λ (e : Effect). Makes b v request old mid e) (sym c.effect.view_is) c.in_ok-effect.ensures.makes in
-    let meets = subst (λ (e : Effect). Meets b v (step_of old mid request) (λ s given. app_effect s c.args.app request given) e) (sym c.effect.view_is) c.in_ok-effect.ensures.meets in
+    let same = sym c.put-note.ensures.told in
+    let makes = subst (λ (e : Effect). Makes b v request old mid e) same c.in_ok-effect.ensures.makes in
+    let meets = subst (λ (e : Effect). Meets b v (step_of old mid request) (λ s given. app_effect s c.args.app request given) e) same c.in_ok-effect.ensures.meets in
     let made = is_made b v old mid (parts_view c.boot_if_stopped.new.self) request (λ s given. app_effect s c.args.app request given) _ c.boot_if_stopped.new.note
     makes meets boot.note boot.held boot.boots boot.found boot.moments boot.asked (λ stop. app_no_reset c.args.app request c.requires.fits) boot.trouble boot.booted in
-    rw (c.of.ensures, boot.report, c.app_store_request.ensures.report, c.requires.nothing, c.put_answer.ensures, c.requires.actor) (record {
+    rw (c.of.ensures, boot.report, c.app_store_request.ensures.report, c.requires.nothing, c.requires.actor) (record {
       answered = record {
         actor_is = refl;
         request_is = refl;
         made = made;
-        told = subst (λ (r : Reported). Tells (counts_view c.args.counters.now) (counts_view c.tell_call.new.counters)
-            (told_at c.args.self.now.desk.clock.seconds c.args.self.now.desk.clock.sub c.boot_if_stopped.new.self.desk.tables request (reported_effect c.effect.inside.answer c.effect.inside.bytes.list r c.boot_if_stopped.new.note)) c.tell_call.new.packets.list)
-            (boot.report ∙ c.app_store_request.ensures.report ∙ c.requires.nothing) (c.tell_call.ensures.tells c.effect.inside.bytes.list c.boot_if_stopped.new.note);
+        told = rw c.answer_in-answer.ensures at (subst (λ (r : Reported). Tells (counts_view c.args.counters.now) (counts_view c.tell_call.new.counters)
+            (told_at c.args.self.now.desk.clock.seconds c.args.self.now.desk.clock.sub c.boot_if_stopped.new.self.desk.tables request (reported_effect c.answer_in-answer.result c.put-note.new.reply.bytes.list r c.boot_if_stopped.new.note)) c.tell_call.new.packets.list)
+            (boot.report ∙ c.app_store_request.ensures.report ∙ c.requires.nothing) (c.tell_call.ensures.tells c.put-note.new.reply.bytes.list c.boot_if_stopped.new.note));
         small = record { bytes = makes.within.bytes; packets = c.tell_call.ensures.len };
       };
     })
