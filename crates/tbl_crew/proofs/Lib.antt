@@ -5,5 +5,9 @@ pub mod RestLemmas
 pub mod MoveLemmas
 pub mod PushLemmas
 pub mod LendingLemmas
+pub mod TakingLemmas
 pub mod WorkerLemmas
+pub mod LookLemmas
 pub mod WatchLemmas
+pub mod SeatLemmas
+pub mod EndLemmas

@@ -1,7 +1,7 @@
 -- Turns under the lock: what they lead on to, and what a thread keeps knowing of its own actors.
 use Rattle.std.proofs.Common.{◌≡◌, ◌≢◌, ℕ, zero, suc, ◌+◌, ◌-◌, ◌/◌, ◌<◌, ◌≤◌, List, [], ◌∷◌, ◌++◌, length, take, drop, Option, refl, sym, ap, ◌∙◌, subst, ⊎_elim, arith, ℤ}
 use Rattle.std.specs.Prelude.{slice_index, replicate}
-use Rattle.std.proofs.lemmas.List.{length-replicate, length-take-le, length-drop}
+use Rattle.std.proofs.lemmas.List.{length-append, length-replicate, length-take-le, length-drop}
 use mathlib.Core.Option.{some, some-ne-none}
 use lib.ListN.{get_elem?}
 use Rattle.tbl_outside.specs.declared.bank.Bank.{Ghosts}
@@ -14,6 +14,7 @@ use Rattle.tbl_crew.specs.CrewView.{CrewView}
 use Rattle.tbl_crew.specs.Leading.{LeadsOn}
 use Rattle.tbl_crew.specs.Moves.{Moves, HasEnded, HaveEnded, HaveLeft}
 use Rattle.tbl_crew.specs.Scripts.{script_of}
+use Rattle.tbl_crew.specs.Seats.{Place, ArePlayed}
 
 module _ {B C : Type 0} (g : Ghosts B) (verdict : C → List ℕ → ℤ) where
   abbrev Moved : CrewView B C → ℕ → CrewView B C → Type 0
@@ -103,3 +104,17 @@ module _ {B C : Type 0} where
     high_left count number is split left =
         subst (λ (n : ℕ). HaveLeft count (from + n / 2) m'.0.seen) is.1
         (subst (λ (l : List (CrewView B C)). HaveLeft count (from + length m.0.seen / 2) l) (sym (ap (λ (x : Me (Option (CrewView B C)) (View (CrewView B C))). x.0.seen) split)) (left_high count from (length m.0.seen / 2) m.0.seen left))
+
+-- both halves have played, and are one again
+pub played_both : {B C : Type 0} (first low high both : Place B C) (from a b count : ℕ) → low.table_id ≡ first.table_id → IsSeat low.me from a → IsSeat high.me (from + a) b → HaveEnded from low.me.0.seen → HaveEnded (from + a) high.me.0.seen
+    → both.table_id ≡ low.table_id → Idle both.me low.me.0.from (low.me.0.seen ++ high.me.0.seen) → a + b ≡ count → ArePlayed first both from count
+played_both {B} {C} first low high both from a b count own is is' ended more same joined all =
+    let at = ap (λ (x : Me (Option (CrewView B C)) (View (CrewView B C))). x.0.from) is.0 in
+    let seen = ap (λ (x : Me (Option (CrewView B C)) (View (CrewView B C))). x.0.seen) joined in
+    let long : length both.me.0.seen ≡ count = ap length seen ∙ omega (arith, length-append low.me.0.seen high.me.0.seen, is.1, is'.1, all) in
+    let meet : from + a ≡ from + length low.me.0.seen = omega (arith, is.1) in
+    record {
+      own = same ∙ own;
+      seat = (joined ∙ (λ i. (seat_view (at i) (sym seen i), [])), long);
+      ended = subst (λ (l : List (CrewView B C)). HaveEnded from l) (sym seen) (ended_both from (from + a) low.me.0.seen high.me.0.seen meet ended more);
+    }

@@ -9,14 +9,12 @@ use Rattle.std.proofs.lemmas.List.{get_or-set_other}
 use Rattle.tbl_kinds.specs.declared.request.Request.{Request}
 use Rattle.tbl_outside.specs.declared.bank.Bank.{Ghosts}
 use Rattle.tbl_crew.specs.CrewView.{CrewView}
-use Rattle.tbl_crew.specs.Leading.{LeadsOn}
-use Rattle.tbl_crew.specs.Moves.{Grows, Moves, HasEnded, IsTurned}
+use Rattle.tbl_crew.specs.Moves.{Grows, Moves, HasEnded, IsTurned, PlaysRest}
 use Rattle.tbl_crew.specs.Scripts.{script_of}
-use Rattle.tbl_crew.specs.Turns.{Takes, PlaysNext, Breaks, Turns}
-use Rattle.tbl_core.specs.Service.{CoreView, IsOfPin}
+use Rattle.tbl_crew.specs.Turns.{Takes, PlaysNext, Breaks, Turns, TakesTurn}
+use Rattle.tbl_core.specs.Service.{CoreView}
 use Rattle.tbl_core.specs.declared.service.StepFault.{StepFault}
 use Rattle.tbl_core.specs.declared.service.StepFault.TheVariants.{Memory, BootFault, BootStopped}
-use Rattle.tbl_registry.specs.declared.pin.Pin.{Pin}
 use Rattle.tbl_crew.specs.declared.held.Turn.{Turn}
 use Rattle.tbl_crew.specs.declared.held.Turn.TheVariants.{Played, Pinned, PinMemory, Ended, Done}
 
@@ -94,14 +92,14 @@ module _ {B C : Type 0} (g : Ghosts B) (old new : CrewView B C) (actor : ℕ) wh
   stopped Done turn cause is = turn.same
 
   -- so it is one turn under the lock
-  pub moved_by : (verdict : C → List ℕ → ℤ) (result : Turn) → Turns g old new actor result → LeadsOn g verdict old new → ((pin : Pin) → IsOfPin pin old.core → IsOfPin pin new.core) → Moves g verdict old actor new
-  moved_by verdict result turn leads pins = record {
-    leads = leads;
-    others = others_stay result turn;
-    went = went_on result turn;
-    pins = pins;
-    grows = grew result turn;
-    stops = stopped result turn;
+  pub moved_by : (verdict : C → List ℕ → ℤ) (result : Turn) → TakesTurn g verdict old new actor result → Moves g verdict old actor new
+  moved_by verdict result turn = record {
+    leads = turn.leads;
+    others = others_stay result turn.turns;
+    went = went_on result turn.turns;
+    pins = turn.pins;
+    grows = grew result turn.turns;
+    stops = stopped result turn.turns;
   }
 
   -- if it wasn't played, its actor has ended
@@ -131,3 +129,11 @@ pub ended_next : {B C : Type 0} (old new : CrewView B C) (actor : ℕ) → ((oth
 ended_next old new actor before now went kept other within goes = dite (ℕ_discrete other actor)
     (λ same. subst (λ (n : ℕ). script_of new.left n ≡ []) (sym same) (now goes))
     (λ apart. kept other (before other (omega (arith, within, apart)) (went goes)))
+
+-- one turn more of what is left
+pub rest_on : {B C : Type 0} (g : Ghosts B) (verdict : C → List ℕ → ℤ) (first old new : CrewView B C) (actor : ℕ) (result : Turn) → PlaysRest g verdict first old → TakesTurn g verdict old new actor result → PlaysRest g verdict first new
+rest_on g verdict first old new actor result was turn = record {
+  leads = λ o scripts led. turn.leads o scripts (was.leads o scripts led);
+  went_on = λ goes. was.went_on (went_on g old new actor result turn.turns goes);
+  kept = λ other none. stays_empty g old new actor result turn.turns other (was.kept other none);
+}

@@ -25,7 +25,6 @@ use Rattle.tbl_crew.specs.Moves.{Moves, HasEnded, HaveEnded, HaveLeft, HaveTurne
 use Rattle.tbl_crew.specs.Reads.{plan_by, plan_of, is_of, lent_by, IsNextSlice, Keeps}
 use Rattle.tbl_crew.specs.Scripts.{script_of}
 use Rattle.tbl_crew.specs.Turns.{Turns, ReadsLent}
-use Rattle.tbl_kinds.specs.Buffers.{Buffer}
 use Rattle.tbl_core.specs.Lent.{StillPins}
 use Rattle.tbl_crew.proofs.MoveLemmas.{own_stays, one_ended}
 use Rattle.tbl_crew.proofs.RestLemmas.{is_turned}

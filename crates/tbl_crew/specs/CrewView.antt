@@ -14,6 +14,10 @@ pub record CrewView (B C : Type 0) : Type 0 where
   pub fault : Option StepFault
   pub left : List (List Request)
 
+-- a crew of these parts
+abbrev pub crew_of : {B C : Type 0} → CoreView B C → Option StepFault → List (List Request) → CrewView B C
+crew_of core fault left = record { core = core; fault = fault; left = left }
+
 -- the last entry has a boot that ended the service; else the service goes on
 abbrev pub TellsFault : {B C : Type 0} → Option StepFault → CoreView B C → Type 0
 TellsFault None core = core.state.ended ≡ false

@@ -5,4 +5,6 @@ pub mod Reads
 pub mod Turns
 pub mod Histories
 pub mod Moves
+pub mod Seats
 pub mod Watching
+pub mod Watchers

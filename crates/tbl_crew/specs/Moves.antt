@@ -1,5 +1,5 @@
 -- What one turn under the lock does, and what a thread knows of its actors' scripts.
-use Rattle.std.specs.Prelude.{◌≡◌, ◌≢◌, ◌⊎◌, ℕ, ◌+◌, List, [], ◌∷◌, ◌++◌, length, All, Option, Some, None}
+use Rattle.std.specs.Prelude.{◌≡◌, ◌≢◌, ◌⊎◌, ℕ, ◌+◌, ◌<◌, List, [], ◌∷◌, ◌++◌, length, All, Option, Some, None}
 use Rattle.std.proofs.Common.{ℤ}
 use mathlib.Core.Option.{some}
 use lib.ListN.{get_elem?}
@@ -35,6 +35,15 @@ pub record Moves {B C : Type 0} (g : Ghosts B) (verdict : C → List ℕ → ℤ
   pub grows : Grows old.core.entries actor new.core.entries
   pub stops : (cause : StepFault) → old.fault ≡ Some cause → new ≡ old
 
+-- What playing the rest of a script without the lock promises.
+pub record PlaysRest {B C : Type 0} (g : Ghosts B) (verdict : C → List ℕ → ℤ) (old new : CrewView B C) : Type 0 where
+  -- whatever the crew represented, it represents still
+  pub leads : LeadsOn g verdict old new
+  -- it forgets no fault
+  pub went_on : new.fault ≡ None → old.fault ≡ None
+  -- no script gets a further request
+  pub kept : (other : ℕ) → script_of old.left other ≡ [] → script_of new.left other ≡ []
+
 -- since the actor saw the crew, others had turns, and then it had this one
 pub record HasTurned {B C : Type 0} (g : Ghosts B) (verdict : C → List ℕ → ℤ) (actor : ℕ) (turn : Turn) (old new : CrewView B C) : Type 0 where
   pub taken : CrewView B C
@@ -68,6 +77,10 @@ HaveReadLent g verdict actor read (old ∷ olds) (new ∷ news) = HasReadLent g 
 -- the actor's script was played to its end, or a step answered a fault
 abbrev pub HasEnded : {B C : Type 0} → CrewView B C → ℕ → Type 0
 HasEnded h actor = h.fault ≡ None → script_of h.left actor ≡ []
+
+-- so it is of the first actors, so many
+abbrev pub AllEnded : {B C : Type 0} → ℕ → CrewView B C → Type 0
+AllEnded count h = (actor : ℕ) → actor < count → HasEnded h actor
 
 -- so it is of these actors, from one on, by what each saw last
 abbrev pub HaveEnded : {B C : Type 0} → ℕ → List (CrewView B C) → Type 0

@@ -1,8 +1,8 @@
 -- What each actor asks, in order: the scripts that a crew is given.
-use Rattle.std.specs.Prelude.{ℕ, List, [], ◌∷◌, ◌++◌, length, Option, Some, None, sum_by, All, slice_index_or, slice_set}
+use Rattle.std.specs.Prelude.{◌≡◌, ℕ, ◌<◌, List, [], ◌∷◌, ◌++◌, length, Option, Some, None, sum_by, All, slice_index, slice_index_or, slice_set}
 use Rattle.tbl_kinds.specs.Records.{Pair, actor_number}
 use Rattle.tbl_kinds.specs.Requests.{Fits}
-use Rattle.tbl_session.specs.Actors.{actor_of}
+use Rattle.tbl_session.specs.Actors.{actor_count, actor_of}
 use Rattle.tbl_kinds.specs.declared.request.Request.{Request}
 
 -- what this actor asks
@@ -33,3 +33,7 @@ OfEach P scripts = (actor : ℕ) → All (λ (request : Request). P (record { ac
 -- each of them may come from its actor
 abbrev pub AllFit : List (List Request) → Type 0
 AllFit scripts = (actor : ℕ) → All (Fits (actor_of actor)) (script_of scripts actor)
+
+-- these are the numbers of requests of all actors
+abbrev pub AreCounted : List ℕ → List (List Request) → Type 0
+AreCounted counts scripts = (actor : ℕ) → actor < actor_count → length (script_of scripts actor) ≡ slice_index counts actor

@@ -1,16 +1,19 @@
 -- One turn of an actor.
-use Rattle.std.specs.Prelude.{◌≡◌, ◌⊎◌, ℕ, [], ◌∷◌, Some, None, Ok, Err}
+use Rattle.std.specs.Prelude.{◌≡◌, ◌⊎◌, ℕ, List, [], ◌∷◌, Some, None, Ok, Err}
+use Rattle.std.proofs.Common.{ℤ}
 use Rattle.tbl_outside.specs.declared.bank.Bank.{Ghosts}
 use Rattle.tbl_core.specs.Lent.{LastGives}
-use Rattle.tbl_core.specs.Service.{CoreView, AddsOne}
+use Rattle.tbl_core.specs.Service.{CoreView, AddsOne, IsOfPin}
 use Rattle.tbl_core.specs.declared.service.StepFault.{StepFault}
 use Rattle.tbl_core.specs.declared.service.StepFault.TheVariants.{Memory, BootFault, BootStopped}
 use Rattle.tbl_crew.specs.CrewView.{CrewView}
 use Rattle.tbl_session.specs.Actors.{actor_of}
+use Rattle.tbl_crew.specs.Leading.{LeadsOn}
 use Rattle.tbl_crew.specs.Reads.{Lends}
 use Rattle.tbl_crew.specs.Scripts.{script_of, with_script}
 use Rattle.tbl_kinds.specs.Buffers.{Buffer}
 use Rattle.tbl_kinds.specs.declared.request.Request.{Request}
+use Rattle.tbl_registry.specs.declared.pin.Pin.{Pin}
 use Rattle.tbl_crew.specs.declared.held.Turn.{Turn}
 use Rattle.tbl_crew.specs.declared.held.Turn.TheVariants.{Played, Pinned, PinMemory, Ended, Done}
 
@@ -70,3 +73,12 @@ Turns g old new actor (Pinned pin) = PlaysNext g old new actor (Pinned pin)
 Turns g old new actor PinMemory = PlaysNext g old new actor PinMemory
 Turns g old new actor Ended = EndsNow g old new actor ⊎ EndedBefore old new
 Turns g old new actor Done = HasDone old new actor
+
+-- What one turn promises of the crew.
+pub record TakesTurn {B C : Type 0} (g : Ghosts B) (verdict : C → List ℕ → ℤ) (old new : CrewView B C) (actor : ℕ) (turn : Turn) : Type 0 where
+  -- the answer says what came of the actor's next request
+  pub turns : Turns g old new actor turn
+  -- whatever the crew represented, it represents still
+  pub leads : LeadsOn g verdict old new
+  -- what was lent stays lent
+  pub pins : (pin : Pin) → IsOfPin pin old.core → IsOfPin pin new.core

@@ -1,5 +1,5 @@
 -- What a watched crew promises, and what is known of the watcher's looks on the way.
-use Rattle.std.specs.Prelude.{◌≡◌, ◌≢◌, ◌⊎◌, ℕ, ◌≤◌, List, [], ◌∷◌, ◌++◌, length, All, false, Option, Some, None, Result, Ok, Err}
+use Rattle.std.specs.Prelude.{◌≡◌, ◌≢◌, ◌⊎◌, ℕ, ◌≤◌, List, [], ◌∷◌, ◌++◌, length, All, false, Option, Some, None, Result, Ok, Err, OnOk}
 use Rattle.std.proofs.Common.{ℤ}
 use Rattle.tbl_kinds.specs.Check.{check16}
 use Rattle.tbl_kinds.specs.Records.{record_limit}
@@ -8,7 +8,7 @@ use Rattle.tbl_kinds.specs.declared.entry.Entry.{Entry}
 use Rattle.tbl_kinds.specs.declared.request.Request.{Request}
 use Rattle.tbl_model.specs.Whole.{is_by}
 use Rattle.tbl_outside.specs.declared.bank.Bank.{Ghosts}
-use Rattle.tbl_session.specs.Actors.{part}
+use Rattle.tbl_session.specs.Actors.{actor_count, part}
 use Rattle.tbl_session.specs.Openings.{Opening}
 use Rattle.tbl_session.specs.Served.{IsServed}
 use Rattle.tbl_history.specs.Trouble.{IsCaused}
@@ -20,7 +20,8 @@ use Rattle.tbl_core.specs.declared.service.StepFault.{StepFault}
 use Rattle.tbl_core.specs.declared.service.StepFault.TheVariants as fault
 use Rattle.tbl_crew.specs.CrewView.{CrewView}
 use Rattle.tbl_crew.specs.Histories.{HasPlayed, HavePlayed, OneHistory}
-use Rattle.tbl_crew.specs.Leading.{LeadsFrom}
+use Rattle.tbl_crew.specs.Leading.{LeadsFrom, LeadsOn}
+use Rattle.tbl_crew.specs.Moves.{AllEnded}
 use Rattle.tbl_crew.specs.Scripts.{script_of}
 use Rattle.tbl_crew.specs.declared.held.Turn.{Turn}
 use Rattle.tbl_crew.specs.declared.held.Turn.TheVariants.{Played, Pinned, PinMemory, Ended, Done}
@@ -106,3 +107,18 @@ HaveMissed g verdict first looks (h ∷ hs) = HasMissed g verdict first looks h
 abbrev pub HaveLooked : {B C M : Type 0} → Ghosts B → (C → List ℕ → ℤ) → CrewView B C → Result Unit M → List Look → List (CrewView B C) → Type 0
 HaveLooked g verdict first (Ok done) looks seen = HaveWatched g verdict first looks seen
 HaveLooked g verdict first (Err memory) looks seen = HaveMissed g verdict first looks seen
+
+-- whatever was watched so far, it is so still
+abbrev pub StaysWatched : {B C : Type 0} → Ghosts B → (C → List ℕ → ℤ) → CrewView B C → CrewView B C → Type 0
+StaysWatched {B} {C} g verdict old new = (first : CrewView B C) (looks : List Look) → HasWatched g verdict first looks old → HasWatched g verdict first looks new
+
+-- What playing all scripts of a watched crew promises, by what came of the looks.
+pub record WatchesAll {B C M : Type 0} (g : Ghosts B) (verdict : C → List ℕ → ℤ) (first : CrewView B C) (result : Result Unit M) (looks : List Look) (now : CrewView B C) : Type 0 where
+  -- whatever the first crew represented, this one does
+  pub leads : LeadsOn g verdict first now
+  -- the others have ended
+  pub others : AllEnded watcher now
+  -- so has the watcher, unless memory ran out for a look
+  pub ended : OnOk result (AllEnded actor_count now)
+  -- these are the looks of its history, except that one
+  pub looked : HasLooked g verdict first result looks now

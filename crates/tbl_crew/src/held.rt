@@ -1,21 +1,19 @@
 //! What the lock holds, and one turn of an actor.
 
-ghost use Rattle.std.specs.Prelude.{◌≡◌, ℕ, ◌+◌, ◌<◌, ◌≤◌, List, [], ◌∷◌, length, None, false, IfOk, IfErr};
-ghost use Rattle.tbl_kinds.specs.Records.{record_limit};
-ghost use Rattle.tbl_kinds.specs.declared.request.Request.{Request as AnyRequest};
+ghost use Rattle.std.specs.Prelude.{◌≡◌, ◌<◌, ◌≤◌, [], None, false, IfOk, IfErr};
 ghost use Rattle.tbl_session.specs.Actors.{actor_count, actor_of};
 ghost use Rattle.tbl_session.specs.Openings.{Opening};
 ghost use Rattle.tbl_history.specs.Serving.{Serves};
-ghost use Rattle.tbl_crew.specs.CrewView.{CrewView, MayGoOn};
-ghost use Rattle.tbl_crew.specs.Leading.{LeadsFrom, LeadsOn};
-ghost use Rattle.tbl_crew.specs.Scripts.{script_of, request_count, AllFit};
+ghost use Rattle.tbl_crew.specs.CrewView.{MayGoOn, crew_of};
+ghost use Rattle.tbl_crew.specs.Leading.{LeadsFrom};
+ghost use Rattle.tbl_crew.specs.Scripts.{AllFit, request_count, script_of};
+ghost use Rattle.tbl_kinds.specs.Records.{record_limit};
 ghost use Rattle.tbl_crew.specs.Reads.{plan_of, IsNextSlice, last_got, PinsLast, Lends};
 ghost use Rattle.table_watch.specs.Watching.{handle_got};
-ghost use Rattle.tbl_crew.specs.Turns.{Turns, ReadsLent};
+ghost use Rattle.tbl_crew.specs.Turns.{TakesTurn, ReadsLent};
 ghost use Rattle.tbl_core.specs.Lent.{StillPins};
 ghost use Rattle.tbl_core.specs.Service.{IsOfPin};
 ghost use Rattle.tbl_model.specs.Whole.{is_done};
-ghost use Rattle.tbl_registry.specs.declared.pin.Pin.{Pin};
 
 use crate::scripts::Scripts;
 use std::alloc::{AllocFailed, Global};
@@ -125,11 +123,7 @@ impl<B: Bank, C: Validator> Crew<B, C> {
     /// later ones have ended.
     pub fn turn(&mut self, actor: u8) -> Turn
         requires actor { actor < actor_count }
-        ensures turns { Turns B.Bank self.old self.new actor result }
-        // Whatever it represented.
-        ensures leads { LeadsOn B.Bank C.verdict self.old self.new }
-        // And whatever was lent.
-        ensures pins { (pin : Pin) → IsOfPin pin self.old.core → IsOfPin pin self.new.core }
+        ensures turn { TakesTurn B.Bank C.verdict self.old self.new actor result }
     {
         let core = self.core.as_mut();
         turn_fields(core, &mut self.fault, &mut self.left, actor)
@@ -162,11 +156,9 @@ impl<B: Bank, C: Validator> Crew<B, C> {
         requires actor { actor < actor_count }
         requires pin { IsOfPin pin.now self.old.core }
         requires slice { IsNextSlice pin.now (script_of self.old.left actor) slice.list }
-        ensures turns { Turns B.Bank self.old self.new actor result }
-        ensures leads { LeadsOn B.Bank C.verdict self.old self.new }
+        ensures turn { TakesTurn B.Bank C.verdict self.old self.new actor result }
         // Over any bank: what was handed in is what is answered, or the Read is refused.
         ensures lent { StillPins pin.now self.old.core.gets → ReadsLent self.old.core self.new.core slice result }
-        ensures pins { (other : Pin) → IsOfPin other self.old.core → IsOfPin other self.new.core }
     {
         read_fields(
             self.core.as_mut(),
@@ -241,11 +233,9 @@ fn turn_fields<B: Bank, C: Validator>(
     actor: u8,
 ) -> Turn
     requires actor { actor < actor_count }
-    requires goes_on { MayGoOn (record { core = core.old; fault = fault.old; left = left.old }) }
-    ensures goes_on { MayGoOn (record { core = core.new; fault = fault.new; left = left.new }) }
-    ensures turns { Turns B.Bank (record { core = core.old; fault = fault.old; left = left.old }) (record { core = core.new; fault = fault.new; left = left.new }) actor result }
-    ensures leads { LeadsOn B.Bank C.verdict (record { core = core.old; fault = fault.old; left = left.old }) (record { core = core.new; fault = fault.new; left = left.new }) }
-    ensures pins { (pin : Pin) → IsOfPin pin core.old → IsOfPin pin core.new }
+    requires goes_on { MayGoOn (crew_of core.old fault.old left.old) }
+    ensures goes_on { MayGoOn (crew_of core.new fault.new left.new) }
+    ensures turn { TakesTurn B.Bank C.verdict (crew_of core.old fault.old left.old) (crew_of core.new fault.new left.new) actor result }
 {
     if fault.is_some() {
         return Turn::Ended;
@@ -272,14 +262,12 @@ fn read_fields<B: Bank, C: Validator>(
     slice: Bytes,
 ) -> Turn
     requires actor { actor < actor_count }
-    requires goes_on { MayGoOn (record { core = core.old; fault = fault.old; left = left.old }) }
+    requires goes_on { MayGoOn (crew_of core.old fault.old left.old) }
     requires pin { IsOfPin pin.now core.old }
     requires slice { IsNextSlice pin.now (script_of left.old actor) slice.list }
-    ensures goes_on { MayGoOn (record { core = core.new; fault = fault.new; left = left.new }) }
-    ensures turns { Turns B.Bank (record { core = core.old; fault = fault.old; left = left.old }) (record { core = core.new; fault = fault.new; left = left.new }) actor result }
-    ensures leads { LeadsOn B.Bank C.verdict (record { core = core.old; fault = fault.old; left = left.old }) (record { core = core.new; fault = fault.new; left = left.new }) }
+    ensures goes_on { MayGoOn (crew_of core.new fault.new left.new) }
+    ensures turn { TakesTurn B.Bank C.verdict (crew_of core.old fault.old left.old) (crew_of core.new fault.new left.new) actor result }
     ensures lent { StillPins pin.now core.old.gets → ReadsLent core.old core.new slice result }
-    ensures pins { (other : Pin) → IsOfPin other core.old → IsOfPin other core.new }
 {
     if fault.is_some() {
         return Turn::Ended;

@@ -2,8 +2,12 @@
 //! actor's requests are its script, in order.
 #![tactic(auto)]
 
+mod halves;
 mod held;
+mod rest;
 mod scripts;
+mod taken;
+mod turns;
 mod watching;
 pub mod workers;
 

@@ -1,9 +1,8 @@
 //! A crew whose last application watches: its worker looks at each image that its calls pin.
 
-ghost use Rattle.std.specs.Prelude.{◌≡◌, ℕ, ◌+◌, ◌<◌, ◌≤◌, List, [], ◌∷◌, length, take, drop, replicate, slice_index, OnOk, OnErr, Some, None, false};
+ghost use Rattle.std.specs.Prelude.{◌≡◌, ◌≤◌, List, [], take, drop, replicate, OnOk, OnErr, None, false};
 ghost use Rattle.std.specs.Thread.{IsSync, IsSend};
 ghost use Rattle.tbl_kinds.specs.Check.{check16};
-ghost use Rattle.tbl_kinds.specs.Records.{record_limit};
 ghost use Rattle.tbl_kinds.specs.declared.request.Request.{Request};
 ghost use Rattle.tbl_session.specs.Actors.{actor_count};
 ghost use Rattle.tbl_session.specs.Openings.{Opening};
@@ -11,16 +10,23 @@ ghost use Rattle.tbl_history.specs.Serving.{Serves};
 ghost use Rattle.table_watch.specs.Looks.{looked};
 ghost use Rattle.table_watch.specs.Watching.{watcher};
 ghost use Rattle.tbl_crew.specs.CrewView.{CrewView};
-ghost use Rattle.tbl_crew.specs.Leading.{LeadsFrom, LeadsOn};
-ghost use Rattle.tbl_crew.specs.Moves.{HasEnded, HaveEnded, HaveLeft};
+ghost use Rattle.tbl_crew.specs.Leading.{LeadsFrom};
+ghost use Rattle.tbl_crew.specs.Moves.{HasEnded, HaveEnded, PlaysRest};
 ghost use Rattle.tbl_crew.specs.Reads.{Keeps};
-ghost use Rattle.tbl_crew.specs.Scripts.{script_of, request_count, AllFit};
-ghost use Rattle.tbl_crew.specs.Watching.{IsWatched, HasWatched, HasLooked, HaveWatched, HaveLooked, end_of};
-ghost use Rattle.turn_lock.specs.Turns.{Idle, IsSeat};
+ghost use Rattle.tbl_crew.specs.Scripts.{AllFit, AreCounted, request_count};
+ghost use Rattle.tbl_kinds.specs.Records.{record_limit};
+ghost use Rattle.tbl_crew.specs.Seats.{SitsAs, MayPlay, ArePlayed, first_crew};
+ghost use Rattle.tbl_crew.specs.Watchers.{MayWatch, MayWatchAll, WatchesOn};
+ghost use Rattle.tbl_crew.specs.Watching.{IsWatched, HasWatched, HasLooked, HaveLooked, WatchesAll, end_of};
+ghost use Rattle.turn_lock.specs.Turns.{Idle};
 
+use crate::halves::play_range;
 use crate::held::{Crew, ReadPlan, Turn};
+use crate::rest::play_rest;
 use crate::scripts::{ACTOR_COUNT, Scripts};
-use crate::workers::{keep, one_turn, play_range, play_rest, unplayed};
+use crate::taken::keep;
+use crate::turns::{Workplace, one_turn};
+use crate::workers::unplayed;
 use std::alloc::Global;
 use std::sync::Wait;
 use std::thread::{Threads, join};
@@ -64,41 +70,23 @@ fn look_and_keep<G: Gate>(
 /// Plays the watcher's script from its seat like that of any actor, and looks at each image that it is lent. If memory runs out for a look
 /// it ends early, and only this look is missing.
 fn watch_script<B: Bank, C: Validator, G: Gate, R: Wait>(
-    rt: &R,
-    alloc: Global,
-    lock: &TurnLock<Crew<B, C>>,
-    gate: &G,
-    count: u32,
+    room: &Workplace<'_, B, C, G, R>,
     mut place: Place<Crew<B, C>>,
     mut watch: Watch,
 ) -> (Place<Crew<B, C>>, Watch, Result<(), Memory>)
-    requires own { place.table_id ≡ lock.now.table.shared.table_id }
-    requires seat { IsSeat place.me watcher 1 }
-    requires left { HaveLeft (λ _. count) watcher place.me.0.seen }
-    requires watched { HaveWatched B.Bank C.verdict lock.now.table.shared.key.value watch place.me.0.seen }
-    ensures own { result.0.table_id ≡ place.table_id }
-    ensures seat { IsSeat result.0.me watcher 1 }
-    ensures ended { OnOk result.2 (HaveEnded watcher result.0.me.0.seen) }
-    ensures looked { HaveLooked B.Bank C.verdict lock.now.table.shared.key.value result.2 result.1 result.0.me.0.seen }
+    requires watch { MayWatch B.Bank C.verdict room.now place watch }
+    ensures watched { WatchesOn B.Bank C.verdict room.now place result }
 {
-    let mut pins: Vec<Pin> = Vec::new(alloc);
+    let mut pins: Vec<Pin> = Vec::new(room.alloc);
     let mut plan: Option<ReadPlan> = None;
+    let count = room.counts[usize::from(WATCHER)];
     'turns: for nth in 0..count {
-        gate.before(WATCHER, nth);
-        let (turn, next) = one_turn(
-            rt,
-            alloc,
-            lock,
-            gate,
-            &mut place,
-            WATCHER,
-            pins.as_slice(),
-            plan,
-        );
+        room.gate.before(WATCHER, nth);
+        let (turn, next) = one_turn(room, &mut place, WATCHER, pins.as_slice(), plan);
         plan = next;
         match turn {
             Turn::Pinned(pin) => {
-                if look_and_keep(gate, &mut watch, &mut pins, pin).is_err() {
+                if look_and_keep(room.gate, &mut watch, &mut pins, pin).is_err() {
                     return (place, watch, Err(Memory));
                 }
             }
@@ -106,79 +94,48 @@ fn watch_script<B: Bank, C: Validator, G: Gate, R: Wait>(
             Turn::PinMemory => return (place, watch, Err(Memory)),
             Turn::Ended | Turn::Done => return (place, watch, Ok(())),
         }
-        gate.after(WATCHER, nth);
+        room.gate.after(WATCHER, nth);
     }
     (place, watch, Ok(()))
 }
 
 /// The seats of the other actors and of the watcher. What each of them has still to ask is known of both.
-fn seats_of<B: Bank, C: Validator>(
-    lock: &TurnLock<Crew<B, C>>,
-    counts: &[u32; ACTOR_COUNT],
+fn seats_of<B: Bank, C: Validator, G: Gate, R: Wait>(
+    room: &Workplace<'_, B, C, G, R>,
     mut place: Place<Crew<B, C>>,
     watch: &Watch,
 ) -> (Place<Crew<B, C>>, Place<Crew<B, C>>)
-    requires own { place.table_id ≡ lock.now.table.shared.table_id }
-    requires seat { IsSeat place.me 0 actor_count }
-    requires left { HaveLeft (slice_index counts.now) 0 place.me.0.seen }
-    requires watched { HaveWatched B.Bank C.verdict lock.now.table.shared.key.value watch.now (drop watcher place.me.0.seen) }
-    ensures own { result.0.table_id ≡ lock.now.table.shared.table_id }
-    ensures last_own { result.1.table_id ≡ lock.now.table.shared.table_id }
-    ensures others { IsSeat result.0.me 0 watcher }
-    ensures last { IsSeat result.1.me watcher 1 }
-    ensures others_left { HaveLeft (slice_index counts.now) 0 result.0.me.0.seen }
-    ensures last_left { HaveLeft (slice_index counts.now) watcher result.1.me.0.seen }
-    ensures watched { HaveWatched B.Bank C.verdict lock.now.table.shared.key.value watch.now result.1.me.0.seen }
+    requires all { MayWatchAll B.Bank C.verdict room.now place watch.now }
+    ensures others { MayPlay room.now result.0 0 watcher }
+    ensures last { MayWatch B.Bank C.verdict room.now result.1 watch.now }
 {
-    let last = lock.split_last(&mut place);
+    let last = room.lock.split_last(&mut place);
     (place, last)
 }
 
 /// Plays each script in a thread of its own; the watcher's thread looks at the images that it is lent.
-#[tactic(auto, using(crate::proofs::MoveLemmas::one_left, crate::proofs::WatchLemmas::both_ended, crate::proofs::WatchLemmas::last_looked))]
 fn watch_range<B: Bank + Send, C: Validator + Send, G: Gate + Sync, R: Threads + Wait + Sync>(
-    rt: &R,
-    alloc: Global,
-    lock: &TurnLock<Crew<B, C>>,
-    gate: &G,
-    counts: &[u32; ACTOR_COUNT],
+    room: &Workplace<'_, B, C, G, R>,
     place: Place<Crew<B, C>>,
     watch: Watch,
 ) -> (Place<Crew<B, C>>, Watch, Result<(), Memory>)
-    requires own { place.table_id ≡ lock.now.table.shared.table_id }
-    requires seat { IsSeat place.me 0 actor_count }
-    requires left { HaveLeft (slice_index counts.now) 0 place.me.0.seen }
-    requires watched { HaveWatched B.Bank C.verdict lock.now.table.shared.key.value watch (drop watcher place.me.0.seen) }
-    ensures own { result.0.table_id ≡ lock.now.table.shared.table_id }
-    ensures seat { IsSeat result.0.me 0 actor_count }
+    requires all { MayWatchAll B.Bank C.verdict room.now place watch }
+    ensures sits { SitsAs place result.0 0 actor_count }
     ensures others { HaveEnded 0 (take watcher result.0.me.0.seen) }
     ensures ended { OnOk result.2 (HaveEnded 0 result.0.me.0.seen) }
-    ensures looked { HaveLooked B.Bank C.verdict lock.now.table.shared.key.value result.2 result.1 (drop watcher result.0.me.0.seen) }
+    ensures looked { HaveLooked B.Bank C.verdict (first_crew room.now) result.2 result.1 (drop watcher result.0.me.0.seen) }
 {
-    let (place, last) = seats_of(lock, counts, place, &watch);
+    let (place, last) = seats_of(room, place, &watch);
     let others = move || -> Place<Crew<B, C>>
-        requires { IsSync R.row × IsSync G.row × IsSend B.row × IsSend C.row × (place.table_id ≡ lock.now.table.shared.table_id) × IsSeat place.me 0 watcher
-            × HaveLeft (slice_index counts.now) 0 place.me.0.seen }
-        ensures { (result.table_id ≡ place.table_id) × IsSeat result.me 0 watcher × HaveEnded 0 result.me.0.seen }
-    { play_range(rt, alloc, lock, gate, counts, place, 0, WATCHER) };
+        requires { IsSync R.row × IsSync G.row × IsSend B.row × IsSend C.row × MayPlay room.now place 0 watcher }
+        ensures { ArePlayed place result 0 watcher }
+    { play_range(room, place, 0, WATCHER) };
     let watching = move || -> (Place<Crew<B, C>>, Watch, Result<(), Memory>)
-        requires { (last.table_id ≡ lock.now.table.shared.table_id) × IsSeat last.me watcher 1 × HaveLeft (slice_index counts.now) watcher last.me.0.seen
-            × HaveWatched B.Bank C.verdict lock.now.table.shared.key.value watch last.me.0.seen }
-        ensures { (result.0.table_id ≡ last.table_id) × IsSeat result.0.me watcher 1 × OnOk result.2 (HaveEnded watcher result.0.me.0.seen)
-            × HaveLooked B.Bank C.verdict lock.entry.now.table.shared.key.value result.2 result.1 result.0.me.0.seen }
-    {
-        watch_script(
-            rt,
-            alloc,
-            lock,
-            gate,
-            counts[usize::from(WATCHER)],
-            last,
-            watch,
-        )
-    };
-    let (mut place, (last, watch, looked)) = join(rt, others, watching);
-    lock.join(&mut place, last);
+        requires { MayWatch B.Bank C.verdict room.now last watch }
+        ensures { WatchesOn B.Bank C.verdict room.entry.now last result }
+    { watch_script(room, last, watch) };
+    let (mut place, (last, watch, looked)) = join(room.rt, others, watching);
+    room.lock.join(&mut place, last);
     (place, watch, looked)
 }
 
@@ -194,15 +151,19 @@ fn watch_beside<B: Bank + Send, C: Validator + Send, G: Gate + Sync, R: Threads 
 ) -> (Crew<B, C>, Watch, Result<(), Memory>)
     requires own { place.table_id ≡ lock.table.shared.table_id }
     requires seat { Idle place.me 0 (replicate actor_count lock.table.shared.key.value) }
-    requires left { (actor : ℕ) → actor < actor_count → length (script_of lock.table.shared.key.value.left actor) ≡ slice_index counts.now actor }
+    requires counted { AreCounted counts.now lock.table.shared.key.value.left }
     requires empty { lock.table.shared.key.value.core.entries ≡ [] }
     requires watch { watch ≡ [] }
-    ensures leads { LeadsOn B.Bank C.verdict lock.table.shared.key.value result.0 }
-    ensures others { (actor : ℕ) → actor < watcher → HasEnded result.0 actor }
-    ensures ended { OnOk result.2 ((actor : ℕ) → actor < actor_count → HasEnded result.0 actor) }
-    ensures looked { HasLooked B.Bank C.verdict lock.table.shared.key.value result.2 result.1 result.0 }
+    ensures watches { WatchesAll B.Bank C.verdict lock.table.shared.key.value result.2 result.1 result.0 }
 {
-    let (place, watch, looked) = watch_range(rt, alloc, &lock, gate, counts, place, watch);
+    let room = Workplace {
+        rt,
+        alloc,
+        lock: &lock,
+        gate,
+        counts,
+    };
+    let (place, watch, looked) = watch_range(&room, place, watch);
     (lock.close(place), watch, looked)
 }
 
@@ -211,10 +172,8 @@ fn watch_script_rest<B: Bank, C: Validator>(
     crew: &mut Crew<B, C>,
     watch: &mut Watch,
 ) -> Result<(), Memory>
-    ensures leads { LeadsOn B.Bank C.verdict crew.old crew.new }
+    ensures rest { PlaysRest B.Bank C.verdict crew.old crew.new }
     ensures ended { OnOk result (HasEnded crew.new watcher) }
-    ensures went_on { crew.new.fault ≡ None → crew.old.fault ≡ None }
-    ensures kept { (other : ℕ) → script_of crew.old.left other ≡ [] → script_of crew.new.left other ≡ [] }
     ensures looked { (first : CrewView B C) → HasWatched B.Bank C.verdict first watch.old crew.old → HasLooked B.Bank C.verdict first result watch.new crew.new }
 {
     'requests: loop {
@@ -233,10 +192,7 @@ fn watch_script_rest<B: Bank, C: Validator>(
 fn watch_rest<B: Bank, C: Validator>(crew: &mut Crew<B, C>, watch: &mut Watch) -> Result<(), Memory>
     requires empty { crew.old.core.entries ≡ [] }
     requires watch { watch.old ≡ [] }
-    ensures leads { LeadsOn B.Bank C.verdict crew.old crew.new }
-    ensures others { (actor : ℕ) → actor < watcher → HasEnded crew.new actor }
-    ensures ended { OnOk result ((actor : ℕ) → actor < actor_count → HasEnded crew.new actor) }
-    ensures looked { HasLooked B.Bank C.verdict crew.old result watch.new crew.new }
+    ensures watches { WatchesAll B.Bank C.verdict crew.old result watch.new crew.new }
 {
     play_rest(crew, WATCHER);
     watch_script_rest(crew, watch)
@@ -259,9 +215,7 @@ fn end_watched<B: Bank, C: Validator>(
     watch: Watch,
     looked: Result<(), Memory>,
 ) -> (Core<B, C>, Watch, Option<WatchEnd>)
-    requires others { (actor : ℕ) → actor < watcher → HasEnded crew actor }
-    requires ended { OnOk looked ((actor : ℕ) → actor < actor_count → HasEnded crew actor) }
-    ensures history { (first : CrewView B C) → LeadsOn B.Bank C.verdict first crew → HasLooked B.Bank C.verdict first looked watch crew
+    ensures history { (first : CrewView B C) → WatchesAll B.Bank C.verdict first looked watch crew
         → (o : Opening B C) (scripts : List (List Request)) → LeadsFrom B.Bank C.verdict o scripts first → IsWatched B.Bank C.verdict o scripts result.2 result.1 result.0 }
 {
     let (core, fault) = crew.end();
@@ -293,7 +247,7 @@ fn watch_all<B: Bank + Send, C: Validator + Send, G: Gate + Sync, R: Threads + W
     gate: &G,
     watch: Watch,
 ) -> (Core<B, C>, Watch, Option<WatchEnd>)
-    requires left { (actor : ℕ) → actor < actor_count → length (script_of crew.left actor) ≡ slice_index counts.now actor }
+    requires counted { AreCounted counts.now crew.left }
     requires empty { crew.core.entries ≡ [] }
     requires watch { watch ≡ [] }
     ensures history { (o : Opening B C) (scripts : List (List Request)) → LeadsFrom B.Bank C.verdict o scripts crew → IsWatched B.Bank C.verdict o scripts result.2 result.1 result.0 }

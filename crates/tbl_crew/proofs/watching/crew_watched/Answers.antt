@@ -3,8 +3,8 @@ use Rattle.tbl_crew.proofs.ScriptLemmas.{all_counted}
 use Rattle.tbl_crew.specs.Scripts.{script_of}
 use Rattle.tbl_crew.proofs.watching.crew_watched.Goals as goal
 
-pub watch_all-requires-clause-left : goal.watch_all-requires-clause-left
-watch_all-requires-clause-left g c lifetimes outlive actor within =
+pub watch_all-requires-clause-counted : goal.watch_all-requires-clause-counted
+watch_all-requires-clause-counted g c lifetimes outlive actor within =
     ap (λ s. length (script_of s actor)) c.in-Ok.ensures.left
     ∙ sym (c.counts-counts.ensures actor within ∙ all_counted c.args.scripts actor c.requires.few)
 

@@ -1,4 +1,4 @@
-use Rattle.tbl_crew.proofs.WatchLemmas.{nothing_watched}
+use Rattle.tbl_crew.proofs.EndLemmas.{nothing_watched}
 use Rattle.tbl_crew.proofs.watching.unwatched.Goals as goal
 
 pub returns : goal.returns

@@ -6,31 +6,33 @@ use Rattle.tbl_registry.specs.declared.pin.Pin.{Pin}
 use Rattle.tbl_crew.specs.Moves.{AreKnown, AreTurned}
 use Rattle.tbl_crew.specs.declared.held.Turn.{Turn}
 use Rattle.tbl_crew.proofs.WatchLemmas.{watched_played, watched_pinned, watched_over, missed_turned, was_err, was_ok}
+use Rattle.std.specs.Prelude.{slice_index}
+use Rattle.tbl_crew.proofs.MoveLemmas.{one_left}
 use Rattle.tbl_crew.proofs.WorkerLemmas.{turned_of, known_kept, known_first, left_first, left_after, ended_after, ended_none}
 use Rattle.tbl_crew.proofs.watching.watch_script.Goals.{in-Pinned+else-is_err, in-Played}
 use Rattle.tbl_crew.proofs.watching.watch_script.Goals as goal
 
 pub turns-init : goal.turns-init
-turns-init g c = record {
+turns-init g c = let play = c.requires.watch.play in record {
   own = refl;
-  seat = c.requires.seat;
-  known = known_first _ watcher c.args.place.me.0.seen (search rules) c.requires.seat.1;
-  left = left_first watcher c.args.count c.args.place.me.0.seen c.requires.left;
-  watched = c.requires.watched;
+  seat = play.seat;
+  known = known_first _ watcher c.args.place.me.0.seen (search rules) play.seat.1;
+  left = left_first watcher (slice_index c.args.room.now.counts.now c.from.result) c.args.place.me.0.seen (one_left c.args.room.now.counts.now watcher c.from.result c.args.place.me.0.seen play.seat.1 c.from.ensures play.left);
+  watched = c.requires.watch.watched;
 }
 
 pub turns-preserved : goal.turns-preserved
 turns-preserved g c =
-    let e = c.one_turn-turn.ensures in
+    let e = c.one_turn-turn.ensures.worked in
     let turn = c.one_turn-turn.result.0 in
     let old = c.turns.place.me.0.seen in
     let seen = c.one_turn-turn.new.place.me.0.seen in
     let plan = c.one_turn-turn.result.1 in
-    let many : ℕ = c.args.count - c.turns.nth in
-    let all : many + c.turns.nth ≡ c.args.count = omega (arith, c.turns-test.true) in
+    let many : ℕ = (slice_index c.args.room.now.counts.now c.from.result) - c.turns.nth in
+    let all : many + c.turns.nth ≡ (slice_index c.args.room.now.counts.now c.from.result) = omega (arith, c.turns-test.true) in
     let turned = λ (count' : ℕ). turned_of g.B.Bank g.C.Validator.verdict watcher count' turn old seen e.turned in
     let known : AreKnown c.turns.pins.items plan watcher seen = subst (λ (l : List Pin). AreKnown l plan watcher seen) c.as_slice.ensures.value e.known in
-    let first = c.args.lock.now.table.shared.key.value in
+    let first = c.args.room.now.lock.now.table.shared.key.value in
     record {
       own = e.own ∙ c.turns.invariant.own;
       seat = e.seat;
@@ -49,33 +51,56 @@ turns-preserved g c =
       ];
     }
 
-pub returns-then-is_err-clause-looked : goal.returns-then-is_err-clause-looked
-returns-then-is_err-clause-looked g c =
+pub returns-then-is_err : goal.returns-then-is_err
+returns-then-is_err g c =
     let b = g.B.Bank in
-    let first = c.args.lock.now.table.shared.key.value in
+    let e = c.one_turn-turn.ensures.worked in
+    let first = c.args.room.now.lock.now.table.shared.key.value in
     let seen = c.one_turn-turn.new.place.me.0.seen in
-    let missed = missed_turned b g.C.Validator.verdict first c.turns.watch c.one_turn-turn.result.0 c.turns.place.me.0.seen seen c.turns.invariant.watched c.one_turn-turn.ensures.turned (inl (c.in-Pinned.pin, c.in-Pinned.is)) in
+    let missed = missed_turned b g.C.Validator.verdict first c.turns.watch c.one_turn-turn.result.0 c.turns.place.me.0.seen seen c.turns.invariant.watched e.turned (inl (c.in-Pinned.pin, c.in-Pinned.is)) in
     let same = was_err c.look_and_keep.result (sym c.is_err.ensures.value ∙ c.if-is_err.true) c.look_and_keep.ensures.err in
-    subst (λ (looks : List Look). HaveMissed b g.C.Validator.verdict first looks seen) (sym same) missed
+    record {
+      watched = record {
+        own = e.own ∙ c.turns.invariant.own;
+        seat = e.seat;
+        ended = tt;
+        looked = subst (λ (looks : List Look). HaveMissed b g.C.Validator.verdict first looks seen) (sym same) missed;
+      };
+    }
 
-pub returns-in-PinMemory-clause-looked : goal.returns-in-PinMemory-clause-looked
-returns-in-PinMemory-clause-looked g c =
-    missed_turned g.B.Bank g.C.Validator.verdict c.args.lock.now.table.shared.key.value c.turns.watch c.one_turn-turn.result.0 c.turns.place.me.0.seen c.one_turn-turn.new.place.me.0.seen c.turns.invariant.watched c.one_turn-turn.ensures.turned (inr c.in-PinMemory.is)
+pub returns-in-PinMemory : goal.returns-in-PinMemory
+returns-in-PinMemory g c =
+    let e = c.one_turn-turn.ensures.worked in
+    record {
+      watched = record {
+        own = e.own ∙ c.turns.invariant.own;
+        seat = e.seat;
+        ended = tt;
+        looked = missed_turned g.B.Bank g.C.Validator.verdict c.args.room.now.lock.now.table.shared.key.value c.turns.watch c.one_turn-turn.result.0 c.turns.place.me.0.seen c.one_turn-turn.new.place.me.0.seen c.turns.invariant.watched e.turned (inr c.in-PinMemory.is);
+      };
+    }
 
-pub returns-in-Ended-clause-ended : goal.returns-in-Ended-clause-ended
-returns-in-Ended-clause-ended g c =
-    let e = c.one_turn-turn.ensures in
-    let many : ℕ = c.args.count - c.turns.nth in
-    let all : many + c.turns.nth ≡ c.args.count = omega (arith, c.turns-test.true) in
+pub returns-in-Ended : goal.returns-in-Ended
+returns-in-Ended g c =
+    let e = c.one_turn-turn.ensures.worked in
+    let many : ℕ = (slice_index c.args.room.now.counts.now c.from.result) - c.turns.nth in
+    let all : many + c.turns.nth ≡ (slice_index c.args.room.now.counts.now c.from.result) = omega (arith, c.turns-test.true) in
     let turned = turned_of g.B.Bank g.C.Validator.verdict watcher many c.one_turn-turn.result.0 c.turns.place.me.0.seen c.one_turn-turn.new.place.me.0.seen e.turned in
-    ended_after watcher many c.one_turn-turn.result.0 c.one_turn-turn.new.place.me.0.seen e.seat.1 (turned (c.turns.invariant.left many all)) c.in-Ended.is
+    record {
+      watched = record {
+        own = e.own ∙ c.turns.invariant.own;
+        seat = e.seat;
+        ended = ended_after watcher many c.one_turn-turn.result.0 c.one_turn-turn.new.place.me.0.seen e.seat.1 (turned (c.turns.invariant.left many all)) c.in-Ended.is;
+        looked = watched_over g.B.Bank g.C.Validator.verdict c.args.room.now.lock.now.table.shared.key.value c.turns.watch c.one_turn-turn.result.0 c.turns.place.me.0.seen c.one_turn-turn.new.place.me.0.seen c.turns.invariant.watched e.turned c.in-Ended.is;
+      };
+    }
 
-pub returns-in-Ended-clause-looked : goal.returns-in-Ended-clause-looked
-returns-in-Ended-clause-looked g c =
-    watched_over g.B.Bank g.C.Validator.verdict c.args.lock.now.table.shared.key.value c.turns.watch c.one_turn-turn.result.0 c.turns.place.me.0.seen c.one_turn-turn.new.place.me.0.seen c.turns.invariant.watched c.one_turn-turn.ensures.turned c.in-Ended.is
-
-pub returns-clause-ended : goal.returns-clause-ended
-returns-clause-ended g c = ended_none watcher c.turns.place.me.0.seen (c.turns.invariant.left 0 (omega (arith, c.turns-test.false, c.turns.auto.nth-end)))
-
-pub returns-clause-looked : goal.returns-clause-looked
-returns-clause-looked g c = c.turns.invariant.watched
+pub returns : goal.returns
+returns g c = record {
+  watched = record {
+    own = c.turns.invariant.own;
+    seat = c.turns.invariant.seat;
+    ended = ended_none watcher c.turns.place.me.0.seen (c.turns.invariant.left 0 (omega (arith, c.turns-test.false, c.turns.auto.nth-end)));
+    looked = c.turns.invariant.watched;
+  };
+}

@@ -3,8 +3,8 @@ use Rattle.tbl_crew.proofs.ScriptLemmas.{all_counted}
 use Rattle.tbl_crew.specs.Scripts.{script_of}
 use Rattle.tbl_crew.proofs.workers.crew.Goals as goal
 
-pub play_all-requires-clause-left : goal.play_all-requires-clause-left
-play_all-requires-clause-left g c lifetimes outlive actor within =
+pub play_all-requires-clause-counted : goal.play_all-requires-clause-counted
+play_all-requires-clause-counted g c lifetimes outlive actor within =
     ap (λ s. length (script_of s actor)) c.in-Ok.ensures.left
     ∙ sym (c.counts-counts.ensures actor within ∙ all_counted c.args.scripts actor c.requires.few)
 

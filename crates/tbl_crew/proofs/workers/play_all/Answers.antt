@@ -3,8 +3,8 @@ use Rattle.tbl_crew.proofs.HistoryLemmas.{one_history}
 use Rattle.tbl_crew.specs.Scripts.{script_of}
 use Rattle.tbl_crew.proofs.workers.play_all.Goals as goal
 
-pub play_beside-requires-clause-left : goal.play_beside-requires-clause-left
-play_beside-requires-clause-left g c lifetimes outlive actor within = ap (λ h. length (script_of h.left actor)) c.in-Ok.ensures.first ∙ c.requires.left actor within
+pub play_beside-requires-clause-counted : goal.play_beside-requires-clause-counted
+play_beside-requires-clause-counted g c lifetimes outlive actor within = ap (λ h. length (script_of h.left actor)) c.in-Ok.ensures.first ∙ c.requires.counted actor within
 
 pub returns-in-Ok : goal.returns-in-Ok
 returns-in-Ok g c = record {

@@ -6,4 +6,4 @@ returns-clause-leads g c = since_leads g.B.Bank g.C.Validator.verdict _ _ c.clos
 
 pub returns-clause-ended : goal.returns-clause-ended
 returns-clause-ended g c =
-    all_ended g.B.Bank g.C.Validator.verdict c.play_range-place.result.me.0.seen c.close.result 17 c.play_range-place.ensures.seat.1 c.close.ensures.knows c.play_range-place.ensures.ended
+    all_ended g.B.Bank g.C.Validator.verdict c.play_range-place.result.me.0.seen c.close.result 17 c.play_range-place.ensures.played.seat.1 c.close.ensures.knows c.play_range-place.ensures.played.ended

@@ -1,7 +1,4 @@
 use Rattle.tbl_crew.proofs.held.Crew.turn.Goals as goal
 
-pub returns-clause-leads : goal.returns-clause-leads
-returns-clause-leads g c = rw (← c.self.view_is, ← c.as_mut-core.ensures.value) c.turn_fields.ensures.leads
-
-pub returns-clause-pins : goal.returns-clause-pins
-returns-clause-pins g c = rw (← c.self.view_is, ← c.as_mut-core.ensures.value) c.turn_fields.ensures.pins
+pub returns : goal.returns
+returns g c = record { turn = rw (← c.self.view_is, ← c.as_mut-core.ensures.value) c.turn_fields.ensures.turn }

@@ -1,7 +1,7 @@
 use Rattle.std.proofs.Common.{◌≡◌, ◌+◌, ℕ}
 use Rattle.turn_lock.specs.Turns.{IsSeat}
 use Rattle.tbl_crew.specs.Moves.{HaveLeft, AreKnown}
-use Rattle.tbl_crew.proofs.workers.play_script.Given as goal
+use Rattle.tbl_crew.proofs.turns.play_script.Given as goal
 
 abbrev pub invariant-turns : goal.invariant-turns
 invariant-turns g l = record {

@@ -2,26 +2,28 @@ use Rattle.std.proofs.Common.{◌≡◌, ◌+◌, ◌-◌, ℕ, List, subst, ◌
 use Rattle.tbl_registry.specs.declared.pin.Pin.{Pin}
 use Rattle.tbl_crew.specs.Moves.{AreKnown, AreTurned}
 use Rattle.tbl_crew.specs.declared.held.Turn.{Turn}
+use Rattle.std.specs.Prelude.{slice_index}
+use Rattle.tbl_crew.proofs.MoveLemmas.{one_left}
 use Rattle.tbl_crew.proofs.WorkerLemmas.{turned_of, known_kept, known_first, left_first, left_after, ended_after, ended_none}
-use Rattle.tbl_crew.proofs.workers.play_script.Goals.{in-Pinned, in-Played}
-use Rattle.tbl_crew.proofs.workers.play_script.Goals as goal
+use Rattle.tbl_crew.proofs.turns.play_script.Goals.{in-Pinned, in-Played}
+use Rattle.tbl_crew.proofs.turns.play_script.Goals as goal
 
 pub turns-init : goal.turns-init
 turns-init g c = record {
   own = refl;
-  seat = c.requires.seat;
-  known = known_first _ c.args.actor c.args.place.me.0.seen (search rules) c.requires.seat.1;
-  left = left_first c.args.actor c.args.count c.args.place.me.0.seen c.requires.left;
+  seat = c.requires.play.seat;
+  known = known_first _ c.args.actor c.args.place.me.0.seen (search rules) c.requires.play.seat.1;
+  left = left_first c.args.actor (slice_index c.args.room.now.counts.now c.from.result) c.args.place.me.0.seen (one_left c.args.room.now.counts.now c.args.actor c.from.result c.args.place.me.0.seen c.requires.play.seat.1 c.from.ensures c.requires.play.left);
 }
 
 pub turns-preserved : goal.turns-preserved
 turns-preserved g c =
-    let e = c.one_turn-turn.ensures in
+    let e = c.one_turn-turn.ensures.worked in
     let turn = c.one_turn-turn.result.0 in
     let seen = c.one_turn-turn.new.place.me.0.seen in
     let plan = c.one_turn-turn.result.1 in
-    let many : ℕ = c.args.count - c.turns.nth in
-    let all : many + c.turns.nth ≡ c.args.count = omega (arith, c.turns-test.true) in
+    let many : ℕ = (slice_index c.args.room.now.counts.now c.from.result) - c.turns.nth in
+    let all : many + c.turns.nth ≡ (slice_index c.args.room.now.counts.now c.from.result) = omega (arith, c.turns-test.true) in
     let turned = λ (count' : ℕ). turned_of g.B.Bank g.C.Validator.verdict c.args.actor count' turn c.turns.place.me.0.seen seen e.turned in
     let known : AreKnown c.turns.pins.items plan c.args.actor seen = subst (λ (l : List Pin). AreKnown l plan c.args.actor seen) c.as_slice.ensures.value e.known in
     record {
@@ -37,13 +39,25 @@ turns-preserved g c =
           (λ same. elim c.match-turn.branch [ in-Pinned w ↦ cc (w.in-Pinned.is, same) | in-Played w ↦ elim w.in-Played.is [ inl is ↦ cc (is, same) | inr is ↦ cc (is, same) ] ]);
     }
 
-pub returns-in-Ended-clause-ended : goal.returns-in-Ended-clause-ended
-returns-in-Ended-clause-ended g c =
-    let e = c.one_turn-turn.ensures in
-    let many : ℕ = c.args.count - c.turns.nth in
-    let all : many + c.turns.nth ≡ c.args.count = omega (arith, c.turns-test.true) in
+pub returns-in-Ended : goal.returns-in-Ended
+returns-in-Ended g c =
+    let e = c.one_turn-turn.ensures.worked in
+    let many : ℕ = (slice_index c.args.room.now.counts.now c.from.result) - c.turns.nth in
+    let all : many + c.turns.nth ≡ (slice_index c.args.room.now.counts.now c.from.result) = omega (arith, c.turns-test.true) in
     let turned = turned_of g.B.Bank g.C.Validator.verdict c.args.actor many c.one_turn-turn.result.0 c.turns.place.me.0.seen c.one_turn-turn.new.place.me.0.seen e.turned in
-    ended_after c.args.actor many c.one_turn-turn.result.0 c.one_turn-turn.new.place.me.0.seen e.seat.1 (turned (c.turns.invariant.left many all)) c.in-Ended.is
+    record {
+      played = record {
+        own = e.own ∙ c.turns.invariant.own;
+        seat = e.seat;
+        ended = ended_after c.args.actor many c.one_turn-turn.result.0 c.one_turn-turn.new.place.me.0.seen e.seat.1 (turned (c.turns.invariant.left many all)) c.in-Ended.is;
+      };
+    }
 
-pub returns-clause-ended : goal.returns-clause-ended
-returns-clause-ended g c = ended_none c.args.actor c.turns.place.me.0.seen (c.turns.invariant.left 0 (omega (arith, c.turns-test.false, c.turns.auto.nth-end)))
+pub returns : goal.returns
+returns g c = record {
+  played = record {
+    own = c.turns.invariant.own;
+    seat = c.turns.invariant.seat;
+    ended = ended_none c.args.actor c.turns.place.me.0.seen (c.turns.invariant.left 0 (omega (arith, c.turns-test.false, c.turns.auto.nth-end)));
+  };
+}

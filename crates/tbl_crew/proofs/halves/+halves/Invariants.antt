@@ -1,5 +1,5 @@
 use Rattle.std.proofs.Common.{◌+◌, ◌*◌}
-use Rattle.tbl_crew.proofs.workers.+halves.Given as goal
+use Rattle.tbl_crew.proofs.halves.+halves.Given as goal
 
 abbrev pub decreases-play_range : goal.decreases-play_range
 decreases-play_range g l = 2 * l.count
