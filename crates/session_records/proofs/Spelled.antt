@@ -15,7 +15,7 @@ use Rattle.tbl_kinds.specs.declared.request.Actor.{Actor}
 use Rattle.tbl_kinds.specs.declared.request.Actor.TheVariants.{App}
 use Rattle.tbl_kinds.specs.declared.request.Request.{Request}
 use Rattle.tbl_kinds.specs.declared.request.Request.TheVariants as ask
-use Rattle.session_records.specs.Reading.{actor_at, handle_kinds, is_handle_kind, IsSpelledBy, IsReadAs, IfItem}
+use Rattle.session_records.specs.Reading.{actor_at, handle_kinds, is_handle_kind, IsSpelledBy, IsReadOr, IfItem}
 use Rattle.session_records.specs.declared.head.Head.{Head}
 use Rattle.session_records.specs.declared.reading.Next.{Next}
 use Rattle.session_records.specs.declared.reading.Next.TheVariants.{Item, Short, Bad, End}
@@ -144,7 +144,7 @@ tells bytes body actor request kind number len fits whole k n l b actor-is s = r
 
 module _ {E : Type 0} (head : Head) (body : List ℕ) (request : Request) where
   -- a record that is read is one
-  pub item_is_record : (read : Result Next E) → is_good_head head.kind head.actor (length body) ≡ true → IfOk read (IsReadAs head.kind head body request) → IfOk read (λ next. IfItem request next (λ pair used. IsRecord pair))
+  pub item_is_record : (read : Result Next E) → is_good_head head.kind head.actor (length body) ≡ true → IsReadOr head.kind head body request read → IfOk read (λ next. IfItem request next (λ pair used. IsRecord pair))
   item_is_record (Ok (Item actor used)) good is = is_record head.kind head.actor body actor request good is.0 is.2
   item_is_record (Ok Short) good is = tt
   item_is_record (Ok Bad) good is = tt
@@ -154,7 +154,7 @@ module _ {E : Type 0} (head : Head) (body : List ℕ) (request : Request) where
   module _ (bytes : List ℕ) (fits : (i : ℕ) → get_or bytes i 0 < 256) (whole : 4 + head.len ≤ length bytes) (kind : head.kind ≡ byte_at 0 bytes) (number : head.actor ≡ byte_at 1 bytes)
       (len : head.len ≡ stated_len bytes) (stands : body ≡ take head.len (drop 4 bytes)) (sized : length body ≡ head.len) where
     -- it is spelled at the front of the input
-    pub item_spelled : (read : Result Next E) → IfOk read (IsReadAs head.kind head body request) → IfOk read (λ next. IfItem request next (λ pair used. take used bytes ≡ spelling pair))
+    pub item_spelled : (read : Result Next E) → IsReadOr head.kind head body request read → IfOk read (λ next. IfItem request next (λ pair used. take used bytes ≡ spelling pair))
     item_spelled (Ok (Item actor used)) is =
         let t = tells bytes body actor request head.kind head.actor head.len fits whole kind number len stands is.0 is.2 in
         let count : used ≡ 4 + stated_len bytes = omega (arith, is.1, sized, len) in
@@ -165,7 +165,7 @@ module _ {E : Type 0} (head : Head) (body : List ℕ) (request : Request) where
     item_spelled (Err e) is = tt
 
     -- and has as many bytes as are told
-    pub item_used : (read : Result Next E) → IfOk read (IsReadAs head.kind head body request) → IfOk read (λ next. IfItem request next (λ pair used. used ≡ length (spelling pair)))
+    pub item_used : (read : Result Next E) → IsReadOr head.kind head body request read → IfOk read (λ next. IfItem request next (λ pair used. used ≡ length (spelling pair)))
     item_used (Ok (Item actor used)) is = omega (arith, is.1, sized, whole, length-take used bytes, ap length (item_spelled (Ok (Item actor used)) is))
     item_used (Ok Short) is = tt
     item_used (Ok Bad) is = tt

@@ -1,5 +1,5 @@
 -- What is read at the front of an input.
-use Rattle.std.specs.Prelude.{◌≡◌, ℕ, ◌+◌, ◌==◌, true, false, List, [], ◌∷◌, length, Bool, if◌then◌else◌}
+use Rattle.std.specs.Prelude.{◌≡◌, ℕ, ◌+◌, ◌==◌, true, false, List, [], ◌∷◌, length, Bool, if◌then◌else◌, Result, Ok, Err}
 use Rattle.std.specs.List.{list_any}
 use Rattle.tbl_kinds.specs.Requests.{HasNoValidator255}
 use Rattle.tbl_kinds.specs.Records.{Pair, IsSized, kind_of, body_of}
@@ -47,3 +47,8 @@ IsReadAs kind head body request (Item actor used) = (actor ≡ actor_at head.act
 IsReadAs kind head body request Bad = is_right_body kind body ≡ false
 IsReadAs kind head body request Short = ⊥
 IsReadAs kind head body request End = ⊥
+
+-- so it was read; or the body is of the right form, and memory ran out for the request
+abbrev pub IsReadOr : {E : Type 0} → ℕ → Head → List ℕ → Request → Result Next E → Type 0
+IsReadOr kind head body request (Ok next) = IsReadAs kind head body request next
+IsReadOr kind head body request (Err e) = is_right_body kind body ≡ true

@@ -1,4 +1,7 @@
 -- What is written after a head.
+use Rattle.std.specs.Prelude.{◌≡◌, ◌++◌}
+use Rattle.tbl_kinds.specs.Buffers.{Buffer}
+use Rattle.tbl_kinds.specs.Records.{IsSized, body_of}
 use Rattle.tbl_kinds.specs.declared.request.Request.{Request}
 use Rattle.tbl_kinds.specs.declared.request.Request.TheVariants as ask
 
@@ -21,3 +24,9 @@ BeginsWithHandle (ask.CdsCopy slot image) = Unit {0}
 BeginsWithHandle (ask.CdsRestore slot) = Unit {0}
 BeginsWithHandle (ask.CdsDelete slot) = Unit {0}
 BeginsWithHandle _ = ⊥
+
+-- the body of this request was put after what was there
+pub record Appends (request : Request) (old new : Buffer) : Type 0 where
+  pub bytes : new.list ≡ old.list ++ body_of request
+  -- its names and numbers fit their fields
+  pub sized : IsSized request

@@ -70,3 +70,16 @@ pub fn actor_of(number: u8) -> Actor
         _ => Actor::App(number),
     }
 }
+
+/// A record of the head's sender, with a request that is made in its place: one that a function gives is copied each time.
+macro_rules! record {
+    ($head:expr, $body:expr, $place:expr, $request:expr) => {{
+        *$place = $request;
+        Next::Item {
+            actor: actor_of($head.actor),
+            used: HEAD_LEN + $body.len(),
+        }
+    }};
+}
+
+pub(crate) use record;

@@ -1,7 +1,9 @@
 //! Session records both ways: what stands at the front of an input is read as one request of one actor, and a request is written in its one spelling.
 #![tactic(auto)]
 
+mod calls;
 mod fields;
+mod ground;
 mod head;
 mod kept;
 mod lacking;

@@ -2,9 +2,9 @@ ghost use Rattle.std.specs.Prelude.{◌≡◌, ◌+◌, ◌≤◌, ◌++◌, len
 ghost use Rattle.tbl_kinds.specs.Names.{name_field};
 ghost use Rattle.tbl_kinds.specs.Requests.{Fits};
 ghost use Rattle.tbl_kinds.specs.Records as records;
-ghost use Rattle.tbl_kinds.specs.Records.{IsSized, IsRecord, body_of, body_limit, spelling};
+ghost use Rattle.tbl_kinds.specs.Records.{IsRecord, body_of, body_limit, spelling};
 ghost use Rattle.tbl_kinds.specs.declared.request.Request.TheVariants as ask;
-ghost use Rattle.session_records.specs.Writing.{BeginsWithHandle};
+ghost use Rattle.session_records.specs.Writing.{Appends, BeginsWithHandle};
 
 use crate::fields::{append_four, append_two, append_validator};
 use crate::head::HEAD_LEN;
@@ -79,16 +79,14 @@ pub fn body_len(request: &Request) -> usize
 
 fn append_file(out: &mut Bytes, file: &Uplink)
     requires { length (body_of (ask.File file.now)) ≤ out.old.spare }
-    ensures bytes { out.new.list ≡ out.old.list ++ body_of (ask.File file.now) }
-    ensures sized { IsSized (ask.File file.now) }
+    ensures { Appends (ask.File file.now) out.old out.new }
 {
     out.append(file.spelling());
 }
 
 fn append_time(out: &mut Bytes, seconds: u32, sub: u16)
     requires { 6 ≤ out.old.spare }
-    ensures bytes { out.new.list ≡ out.old.list ++ body_of (ask.Time seconds sub) }
-    ensures sized { IsSized (ask.Time seconds sub) }
+    ensures { Appends (ask.Time seconds sub) out.old out.new }
 {
     append_four(out, seconds);
     append_two(out, sub);
@@ -96,7 +94,7 @@ fn append_time(out: &mut Bytes, seconds: u32, sub: u16)
 
 fn append_reset(out: &mut Bytes, kind: ResetKind)
     requires { 1 ≤ out.old.spare }
-    ensures bytes { out.new.list ≡ out.old.list ++ body_of (ask.Reset kind) }
+    ensures { Appends (ask.Reset kind) out.old out.new }
 {
     let number = match kind {
         ResetKind::Processor => 1,
@@ -107,8 +105,7 @@ fn append_reset(out: &mut Bytes, kind: ResetKind)
 
 fn append_register(out: &mut Bytes, name: &Name16, size: u32, flags: u16, validator: Option<u8>)
     requires { length (name_field 16 name.now) + 7 ≤ out.old.spare }
-    ensures bytes { out.new.list ≡ out.old.list ++ body_of (ask.Register name.now size flags validator) }
-    ensures sized { IsSized (ask.Register name.now size flags validator) }
+    ensures { Appends (ask.Register name.now size flags validator) out.old out.new }
 {
     name.append_field(out);
     append_four(out, size);
@@ -118,8 +115,7 @@ fn append_register(out: &mut Bytes, name: &Name16, size: u32, flags: u16, valida
 
 fn append_image(out: &mut Bytes, handle: u16, image: &Bytes)
     requires { 2 + length image.now.list ≤ out.old.spare }
-    ensures bytes { out.new.list ≡ out.old.list ++ body_of (ask.LoadImage handle image.now) }
-    ensures sized { IsSized (ask.LoadImage handle image.now) }
+    ensures { Appends (ask.LoadImage handle image.now) out.old out.new }
 {
     append_two(out, handle);
     out.append(image.bytes());
@@ -127,8 +123,7 @@ fn append_image(out: &mut Bytes, handle: u16, image: &Bytes)
 
 fn append_load_file(out: &mut Bytes, handle: u16, name: &Name64)
     requires { length (body_of (ask.LoadFile handle name.now)) ≤ out.old.spare }
-    ensures bytes { out.new.list ≡ out.old.list ++ body_of (ask.LoadFile handle name.now) }
-    ensures sized { IsSized (ask.LoadFile handle name.now) }
+    ensures { Appends (ask.LoadFile handle name.now) out.old out.new }
 {
     append_two(out, handle);
     name.append_field(out);
@@ -136,8 +131,7 @@ fn append_load_file(out: &mut Bytes, handle: u16, name: &Name64)
 
 fn append_edit(out: &mut Bytes, handle: u16, offset: u32, bytes: &Bytes)
     requires { 6 + length bytes.now.list ≤ out.old.spare }
-    ensures bytes { out.new.list ≡ out.old.list ++ body_of (ask.Edit handle offset bytes.now) }
-    ensures sized { IsSized (ask.Edit handle offset bytes.now) }
+    ensures { Appends (ask.Edit handle offset bytes.now) out.old out.new }
 {
     append_two(out, handle);
     append_four(out, offset);
@@ -146,8 +140,7 @@ fn append_edit(out: &mut Bytes, handle: u16, offset: u32, bytes: &Bytes)
 
 fn append_read(out: &mut Bytes, handle: u16, offset: u32, len: u32)
     requires { 10 ≤ out.old.spare }
-    ensures bytes { out.new.list ≡ out.old.list ++ body_of (ask.Read handle offset len) }
-    ensures sized { IsSized (ask.Read handle offset len) }
+    ensures { Appends (ask.Read handle offset len) out.old out.new }
 {
     append_two(out, handle);
     append_four(out, offset);
@@ -156,8 +149,7 @@ fn append_read(out: &mut Bytes, handle: u16, offset: u32, len: u32)
 
 fn append_notify(out: &mut Bytes, handle: u16, msg: u16, code: u16, parameter: u32)
     requires { 10 ≤ out.old.spare }
-    ensures bytes { out.new.list ≡ out.old.list ++ body_of (ask.Notify handle msg code parameter) }
-    ensures sized { IsSized (ask.Notify handle msg code parameter) }
+    ensures { Appends (ask.Notify handle msg code parameter) out.old out.new }
 {
     append_two(out, handle);
     append_two(out, msg);
@@ -167,8 +159,7 @@ fn append_notify(out: &mut Bytes, handle: u16, msg: u16, code: u16, parameter: u
 
 fn append_block(out: &mut Bytes, name: &Name16, size: u32)
     requires { length (name_field 16 name.now) + 4 ≤ out.old.spare }
-    ensures bytes { out.new.list ≡ out.old.list ++ body_of (ask.CdsRegister name.now size) }
-    ensures sized { IsSized (ask.CdsRegister name.now size) }
+    ensures { Appends (ask.CdsRegister name.now size) out.old out.new }
 {
     name.append_field(out);
     append_four(out, size);
@@ -178,8 +169,7 @@ fn append_block(out: &mut Bytes, name: &Name16, size: u32)
 fn append_handle_body(out: &mut Bytes, request: &Request)
     requires handle { BeginsWithHandle request.now }
     requires room { length (body_of request.now) ≤ out.old.spare }
-    ensures bytes { out.new.list ≡ out.old.list ++ body_of request.now }
-    ensures sized { IsSized request.now }
+    ensures { Appends request.now out.old out.new }
 {
     match request {
         Request::LoadImage { handle, image } => append_image(out, *handle, image),
@@ -216,8 +206,7 @@ fn append_handle_body(out: &mut Bytes, request: &Request)
 
 fn append_body(out: &mut Bytes, request: &Request)
     requires room { length (body_of request.now) ≤ out.old.spare }
-    ensures bytes { out.new.list ≡ out.old.list ++ body_of request.now }
-    ensures sized { IsSized request.now }
+    ensures { Appends request.now out.old out.new }
 {
     match request {
         Request::Command { bytes } => out.append(bytes.bytes()),

@@ -1,4 +1,4 @@
-use Rattle.std.proofs.Common.{◌-◌, take, ap, ◌∙◌, rules}
+use Rattle.std.proofs.Common.{take, ap, ◌∙◌, rules}
 use Rattle.session_records.proofs.Dropping.{moved_front}
 use Rattle.session_records.proofs.kept.move_to_front.Goals as goal
 
