@@ -21,9 +21,9 @@ use Rattle.cds_layout.specs.Images.{turn_in, shown_in}
 use Rattle.cds_layout.specs.Turns.{turn_of, shown_by}
 use Rattle.cds_layout.specs.declared.turns.Place.{Place}
 use Rattle.cds_layout.specs.declared.turns.Place.TheVariants.{First, Second}
-use Rattle.cds_layout.specs.Lines.{IsRightAt, AreRight}
+use Rattle.cds_layout.specs.Lines.{IsRightAt, AreRight, CanBeTogether}
 use Rattle.cds_layout.proofs.EntryLaws.{piece-front, block_in-right}
-use Rattle.cds_layout.proofs.Directories.{directory-is}
+use Rattle.cds_layout.proofs.Directories.{directory-is, length-directory_of}
 
 -- ---- the first bytes alone
 
@@ -213,3 +213,6 @@ directory-agree_both bytes i j a b differ at_i at_j =
       | inl lt ↦ agree-sym a b ∙ directory-agree bytes i j a b lt at_i at_j
       | inr le ↦ directory-agree bytes j i b a (omega (arith, le, differ)) at_j at_i
     ]
+
+pub directory-together : (bytes : List ℕ) → CanBeTogether (directory_of bytes)
+directory-together bytes = record { slots = length-directory_of bytes; right = directory-all_right bytes; apart = directory-agree_both bytes }

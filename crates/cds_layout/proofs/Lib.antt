@@ -6,4 +6,5 @@ pub mod Stored
 pub mod SingleBlocks
 pub mod Texts
 pub mod Turned
-pub mod Looks
+pub mod SlotCalls
+pub mod LookLemmas

@@ -7,7 +7,11 @@ use Rattle.tbl_kinds.specs.Numbers.{piece, two_at, four_at}
 use Rattle.tbl_kinds.specs.Check.{check16}
 use Rattle.tbl_kinds.specs.declared.block.Block.{Block}
 use Rattle.cds_layout.specs.Images.{place_at, data_in, kept_length, kept_word, turned_in, shown_in, held_by, held_in, words_by, words_in}
-use Rattle.cds_layout.specs.Restores.{TellsAt, TellsTorn, words, compared}
+use Rattle.cds_layout.specs.Restores.{TellsAt, TellsTorn, TellsHeld, AreTurns, words, compared}
+use Rattle.cds_layout.specs.Turns.{shown_by}
+use Rattle.cds_layout.specs.declared.turns.Turns.{Turns}
+use Rattle.tbl_outside.specs.declared.bank.Bank.{Ghosts}
+use Rattle.std.proofs.lemmas.Result.{on_ok_weaker, IfErr-weaker}
 use Rattle.cds_layout.specs.Directory.{is_first_version}
 use Rattle.cds_layout.specs.declared.turns.Place.{Place}
 use Rattle.cds_layout.specs.declared.turns.Place.TheVariants.{First}
@@ -79,6 +83,21 @@ unheld bytes slot b (Torn length kept found) told is torn = record {
 unheld bytes slot b Fault told is torn = absurd (cc is)
 
 -- ---- the place that shows
+
+-- the same bytes, and the same place
+pub tells_alike : {B : Type 0} (g : Ghosts B) (mid old : B) (b : Block) (shown same : Option Place) (into : List ℕ) (r : Result Unit RestoreFault) → (g.tells → shown ≡ same) → (g.tells → g.now mid ≡ g.now old)
+    → TellsHeld g mid b shown into r → TellsHeld g old b same into r
+tells_alike g mid old b shown same into r is kept tells = record {
+  whole = on_ok_weaker r (λ whole told. sym (λ i. held_by (kept told i) b (is told i)) ∙ whole told) tells.whole;
+  torn =
+      IfErr-weaker r _ _
+      (λ fault torn told. subst (λ (bytes : List ℕ). TellsAt bytes b same fault) (kept told) (subst (λ (place : Option Place). TellsAt (g.now mid) b place fault) (is told) (torn told)))
+      tells.torn;
+  why = tells.why;
+}
+
+pub shown-turns : (bytes : List ℕ) (slot : ℕ) (turns : Turns) (shown : Option Place) → AreTurns bytes slot turns → shown ≡ shown_by turns.first turns.second → shown ≡ turned_in bytes slot
+shown-turns bytes slot turns shown are is = is ∙ (λ i. shown_by (are.first i) (are.second i))
 
 pub shown-turned : (bytes : List ℕ) (slot : ℕ) → is_first_version bytes ≡ false → shown_in bytes slot ≡ turned_in bytes slot
 shown-turned bytes slot second = ap (λ (first : Bool). cond first (Some First) (turned_in bytes slot)) second

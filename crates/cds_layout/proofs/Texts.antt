@@ -1,17 +1,18 @@
 -- The text of a store, line by line.
-use Rattle.std.proofs.Common.{◌≡◌, ℕ, ◌+◌, ◌<◌, ◌≤◌, List, [], ◌∷◌, ◌++◌, length, drop, get_or, Option, Some, None, is_some, count_by, cond, refl, sym, ap, ◌∙◌, arith, append_assoc}
+use Rattle.std.proofs.Common.{◌≡◌, ℕ, ◌+◌, ◌<◌, ◌≤◌, List, [], ◌∷◌, ◌++◌, length, drop, get_or, slice_index_or, Option, Some, None, is_some, count_by, cond, refl, sym, ap, ◌∙◌, arith, append_assoc}
 use Rattle.std.specs.List.{sum_by, filter_map}
 use Rattle.std.specs.Option.{option_map}
-use Rattle.std.proofs.lemmas.List.{drop_more, get_or_default, drop_all, append-nil}
+use Rattle.std.proofs.lemmas.List.{drop_more, drop_all, append-nil}
 use Rattle.std.proofs.lemmas.List.Sums.{sum_by-cons}
 use Rattle.tbl_kinds.specs.Blocks.{Stored, Store}
-use Rattle.tbl_kinds.specs.StoreSteps.{taken}
+use Rattle.tbl_kinds.specs.StoreSteps.{stored_at, taken}
 use Rattle.tbl_kinds.specs.declared.block.Block.{Block}
 use Rattle.cds_layout.specs.Directory.{directory_of}
 use Rattle.cds_layout.specs.Images.{head_len, stored_in, stored_from, store_of}
 use Rattle.cds_layout.specs.Texts.{lines_from, room_taken, text_of}
-use Rattle.cds_layout.specs.Lines.{line_at, room_at, last_line, last_line_of, listing}
-use Rattle.cds_layout.proofs.Stored.{length-stored, stored-from}
+use Rattle.cds_layout.specs.Lines.{line_at, room_at, last_line, last_line_of}
+use Rattle.cds_layout.specs.Entries.{slot_count}
+use Rattle.cds_layout.proofs.Stored.{stored_there, length-store}
 
 -- ---- one slot more
 
@@ -22,32 +23,29 @@ lines-first slot (Some b) rest = refl
 lines-step : (slot : ℕ) (store : Store) → slot < length store → lines_from slot (drop slot store) ≡ line_at slot (get_or store slot None) ++ lines_from (slot + 1) (drop (slot + 1) store)
 lines-step slot store lt = ap (lines_from slot) (drop_more store slot None lt) ∙ lines-first slot (get_or store slot None) (drop (slot + 1) store)
 
-stored-at : (bytes : List ℕ) (places : List (Option Block)) (slot : ℕ) (place : Option Block) → slot < length places → place ≡ get_or places slot place → option_map (stored_in bytes slot) place ≡ get_or (stored_from bytes 0 places) slot None
-stored-at bytes places slot place lt is =
-    let same : 0 + slot ≡ slot = omega arith in
-    ap (option_map (stored_in bytes slot)) (is ∙ get_or_default places slot place None lt)
-    ∙ sym (stored-from bytes 0 places slot ∙ ap (λ k. option_map (stored_in bytes k) (get_or places slot None)) same)
-
-pub one_more : (bytes now : List ℕ) (places : List (Option Block)) (slot : ℕ) (place : Option Block) (out new all : List ℕ) → slot < length places → place ≡ get_or places slot place
+pub one_more : (bytes now : List ℕ) (slot : ℕ) (out new all : List ℕ) → slot < slot_count
     → now ≡ bytes
-    → new ≡ out ++ line_at slot (option_map (stored_in now slot) place)
-    → out ++ lines_from slot (drop slot (stored_from bytes 0 places)) ≡ all
-    → new ++ lines_from (slot + 1) (drop (slot + 1) (stored_from bytes 0 places)) ≡ all
-one_more bytes now places slot place out new all lt is same put so_far =
-    let store = stored_from bytes 0 places in
+    → new ≡ out ++ line_at slot (stored_at (store_of now) slot)
+    → out ++ lines_from slot (drop slot (store_of bytes)) ≡ all
+    → new ++ lines_from (slot + 1) (drop (slot + 1) (store_of bytes)) ≡ all
+one_more bytes now slot out new all lt same put so_far =
+    let store = store_of bytes in
     let rest = lines_from (slot + 1) (drop (slot + 1) store) in
-    let within : slot < length store = omega (arith, lt, length-stored bytes 0 places) in
-    let line : option_map (stored_in now slot) place ≡ get_or store slot None = ap (λ (l : List ℕ). option_map (stored_in l slot) place) same ∙ stored-at bytes places slot place lt is in
-    ap (λ (l : List ℕ). l ++ rest) (put ∙ ap (λ o. out ++ line_at slot o) line)
+    ap (λ (l : List ℕ). l ++ rest) (put ∙ ap (λ l. out ++ line_at slot (stored_at (store_of l) slot)) same)
     ∙ append_assoc out (line_at slot (get_or store slot None)) rest
-    ∙ ap (λ (l : List ℕ). out ++ l) (sym (lines-step slot store within))
+    ∙ ap (λ (l : List ℕ). out ++ l) (sym (lines-step slot store (omega (arith, lt, length-store bytes))))
     ∙ so_far
 
 -- no slot is left
-pub all_put : (bytes : List ℕ) (places : List (Option Block)) (slot : ℕ) (out all : List ℕ) → length places ≤ slot → out ++ lines_from slot (drop slot (stored_from bytes 0 places)) ≡ all → out ≡ all
-all_put bytes places slot out all past so_far =
-    let none : drop slot (stored_from bytes 0 places) ≡ [] = drop_all slot (stored_from bytes 0 places) (omega (arith, past, length-stored bytes 0 places)) in
+pub all_put : (bytes : List ℕ) (slot : ℕ) (out all : List ℕ) → slot_count ≤ slot → out ++ lines_from slot (drop slot (store_of bytes)) ≡ all → out ≡ all
+all_put bytes slot out all past so_far =
+    let none : drop slot (store_of bytes) ≡ [] = drop_all slot (store_of bytes) (omega (arith, past, length-store bytes)) in
     sym (append-nil out) ∙ ap (λ (store : Store). out ++ lines_from slot store) (sym none) ∙ so_far
+
+-- what a slot adds, by what the directory has there
+pub line-there : (bytes : List ℕ) (slot : ℕ) (directory : List (Option Block)) (o : Option Block) → directory ≡ directory_of bytes → slice_index_or directory slot None ≡ o
+    → line_at slot (stored_at (store_of bytes) slot) ≡ line_at slot (option_map (stored_in bytes slot) o)
+line-there bytes slot directory o is there = ap (line_at slot) (stored_there bytes slot ∙ ap (option_map (stored_in bytes slot)) (ap (λ l. slice_index_or l slot None) (sym is) ∙ there))
 
 -- ---- the line for all blocks
 
@@ -78,7 +76,8 @@ text-joined : (store : Store) → lines_from 0 store ++ last_line (length (taken
 unfolding text_of
 text-joined store = simp append_assoc
 
-pub text-is : (bytes : List ℕ) → listing bytes (directory_of bytes) ≡ text_of (store_of bytes)
+-- the lines of all slots, and the line for all blocks
+pub text-is : (bytes : List ℕ) → lines_from 0 (store_of bytes) ++ last_line_of (directory_of bytes) ≡ text_of (store_of bytes)
 unfolding store_of
 text-is bytes =
     let places = directory_of bytes in

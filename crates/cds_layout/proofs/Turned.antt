@@ -18,6 +18,15 @@ use Rattle.cds_layout.specs.declared.turns.Place.TheVariants.{First, Second}
 use Rattle.cds_layout.proofs.EntryLaws.{piece-front}
 use Rattle.cds_layout.proofs.Restored.{held-shown}
 
+pub first-read : (bytes : List ℕ) (slot : ℕ) (into : List ℕ) → into ≡ piece (turns_place slot) 2 bytes → turn_of (slice_index_or into 0 0) ≡ turn_in bytes slot First
+first-read bytes slot into is =
+    let there : turns_place slot + 0 ≡ turns_place slot = omega arith in
+    ap turn_of
+    (ap (λ (l : List ℕ). slice_index_or l 0 0) is
+    ∙ get_or-take 2 (drop (turns_place slot) bytes) 0 0 (omega arith)
+    ∙ get_or-drop (turns_place slot) bytes 0 0
+    ∙ ap (λ (at : ℕ). byte_at at bytes) there)
+
 pub second-read : (bytes : List ℕ) (slot : ℕ) (into : List ℕ) → into ≡ piece (turns_place slot) 2 bytes → turn_of (slice_index_or into 1 0) ≡ turn_in bytes slot Second
 second-read bytes slot into is =
     let there : turns_place slot + 1 ≡ 69 + 64 * slot = omega arith in

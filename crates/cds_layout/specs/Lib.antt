@@ -5,4 +5,6 @@ pub mod Images
 pub mod Texts
 pub mod Restores
 pub mod Lines
+pub mod Fronts
 pub mod Order
+pub mod Looks

@@ -1,13 +1,14 @@
 -- The lines of a store's text, by what the directory and the blocks tell.
-use Rattle.std.specs.Prelude.{◌≡◌, ℕ, ◌+◌, ◌-◌, Bool, true, false, List, [], ◌++◌, codes, Option, Some, None, is_some, count_by, slice_index_or}
+use Rattle.std.specs.Prelude.{◌≡◌, ◌≢◌, ℕ, ◌+◌, ◌-◌, Bool, true, false, List, length, [], ◌++◌, codes, Option, Some, None, is_some, count_by, slice_index_or}
 use Rattle.std.specs.List.{sum_by}
 use Rattle.std.specs.Fmt.{decimal}
 use Rattle.tbl_kinds.specs.Blocks.{Stored}
 use Rattle.tbl_kinds.specs.Places.{blocks_begin, blocks_end}
 use Rattle.tbl_kinds.specs.declared.block.Block.{Block}
-use Rattle.cds_layout.specs.Entries.{is_right}
-use Rattle.cds_layout.specs.Images.{head_len, stored_from}
-use Rattle.cds_layout.specs.Texts.{kind_letter, block_line, lines_from}
+use Rattle.cds_layout.specs.Entries.{slot_count, is_right}
+use Rattle.cds_layout.specs.Directory.{agree}
+use Rattle.cds_layout.specs.Images.{head_len}
+use Rattle.cds_layout.specs.Texts.{kind_letter, block_line}
 
 -- a slot's block is one that can be there
 abbrev pub IsRightAt : Option Block → Type 0
@@ -16,6 +17,12 @@ IsRightAt (Some b) = is_right b ≡ true
 
 abbrev pub AreRight : List (Option Block) → Type 0
 AreRight blocks = (slot : ℕ) → IsRightAt (slice_index_or blocks slot None)
+
+-- the blocks of a directory can be there together: one a slot at most, and no two of different slots have a byte, or kind and name, in common
+pub record CanBeTogether (blocks : List (Option Block)) : Type 0 where
+  pub slots : length blocks ≡ slot_count
+  pub right : AreRight blocks
+  pub apart : (i j : ℕ) (a b : Block) → i ≢ j → slice_index_or blocks i None ≡ Some a → slice_index_or blocks j None ≡ Some b → agree a b ≡ true
 
 abbrev pub word_of : Bool → List ℕ
 word_of true = codes "whole"
@@ -43,7 +50,3 @@ last_line count room = codes "blocks " ++ decimal count ++ codes " free " ++ dec
 
 abbrev pub last_line_of : List (Option Block) → List ℕ
 last_line_of blocks = last_line (count_by is_some blocks) (sum_by room_at blocks)
-
--- the text, by the blocks of the directory and the bytes of the bank
-abbrev pub listing : List ℕ → List (Option Block) → List ℕ
-listing bytes blocks = lines_from 0 (stored_from bytes 0 blocks) ++ last_line_of blocks

@@ -12,6 +12,11 @@ use Rattle.cds_layout.specs.Turns.{byte_of}
 use Rattle.cds_layout.specs.declared.turns.Place.{Place}
 use Rattle.cds_layout.specs.declared.turns.Place.TheVariants.{First}
 
+-- those of the first slots, one after the other
+unfoldable pub slot_calls : (ℕ → List BankCall) → ℕ → List BankCall
+slot_calls calls_at zero = []
+slot_calls calls_at (suc slot) = slot_calls calls_at slot ++ calls_at slot
+
 -- ---- blocks
 
 -- a copy and a restore read the two turn bytes first
@@ -55,10 +60,12 @@ reserve_calls old slot b = close_calls old ++ make_calls slot b
 abbrev pub is_stray : List ℕ → List (Option Block) → ℕ → Bool
 is_stray bytes directory slot = (gate_at bytes slot == gate_open) && is_none (slice_index_or directory slot None)
 
--- of the first slots, the stray gates are closed, from the first slot on
-unfoldable pub strays_to : ℕ → List ℕ → List (Option Block) → List BankCall
-strays_to zero bytes directory = []
-strays_to (suc slot) bytes directory = strays_to slot bytes directory ++ (if is_stray bytes directory slot then delete_calls slot else [])
+abbrev pub close_stray : List ℕ → List (Option Block) → ℕ → List BankCall
+close_stray bytes directory slot = if is_stray bytes directory slot then delete_calls slot else []
+
+-- of the first slots, the stray gates are closed
+abbrev pub strays_to : ℕ → List ℕ → List (Option Block) → List BankCall
+strays_to count bytes directory = slot_calls (close_stray bytes directory) count
 
 unfoldable pub zeros : ℕ → List ℕ
 zeros count = replicate count 0
@@ -80,15 +87,18 @@ abbrev pub carried_turns : Bool → List ℕ
 carried_turns true = 0xA0 ∷ 0 ∷ []
 carried_turns false = 0 ∷ 0 ∷ []
 
--- of one slot, what stands in the first place of its block is read, and the turn bytes are written
+-- what stands in the first place of a block is read at once
+abbrev pub first_calls : Block → List BankCall
+first_calls b = read b.offset (head_len + b.size) ∷ []
+
+-- of one slot, so is the first place of its block, and the turn bytes are written
 abbrev pub carry_at : List ℕ → ℕ → Option Block → List BankCall
 carry_at bytes slot None = []
-carry_at bytes slot (Some b) = read b.offset (head_len + b.size) ∷ write (turns_place slot) (carried_turns (is_whole bytes b First)) ∷ []
+carry_at bytes slot (Some b) = first_calls b ++ write (turns_place slot) (carried_turns (is_whole bytes b First)) ∷ []
 
 -- of the first slots
-unfoldable pub carried_to : ℕ → List ℕ → List (Option Block) → List BankCall
-carried_to zero bytes directory = []
-carried_to (suc slot) bytes directory = carried_to slot bytes directory ++ carry_at bytes slot (slice_index_or directory slot None)
+abbrev pub carried_to : ℕ → List ℕ → List (Option Block) → List BankCall
+carried_to count bytes directory = slot_calls (λ slot. carry_at bytes slot (slice_index_or directory slot None)) count
 
 -- and at last the version
 abbrev pub carry_calls : List ℕ → List BankCall
@@ -111,9 +121,8 @@ look_at bytes slot None = []
 look_at bytes slot (Some b) = place_calls b (shown_in bytes slot)
 
 -- of the first slots
-unfoldable pub looked_to : ℕ → List ℕ → List (Option Block) → List BankCall
-looked_to zero bytes directory = []
-looked_to (suc slot) bytes directory = looked_to slot bytes directory ++ look_at bytes slot (slice_index_or directory slot None)
+abbrev pub looked_to : ℕ → List ℕ → List (Option Block) → List BankCall
+looked_to count bytes directory = slot_calls (λ slot. look_at bytes slot (slice_index_or directory slot None)) count
 
 -- the directory is read first
 abbrev pub text_calls : List ℕ → List BankCall

@@ -1,18 +1,23 @@
 -- What the answers of a restore tell.
-use Rattle.std.specs.Prelude.{◌≡◌, ◌≢◌, ◌⊎◌, ℕ, ◌+◌, ◌*◌, ◌==◌, ◌&&◌, Bool, true, if◌then◌else◌, List, Option, Some, None, is_some, Result, Ok, Err}
+use Rattle.std.specs.Prelude.{◌≡◌, ◌≢◌, ◌⊎◌, ℕ, ◌+◌, ◌*◌, ◌≤◌, ◌==◌, ◌&&◌, Bool, true, if◌then◌else◌, List, length, Option, Some, None, is_some, Result, Ok, Err, OnOk, IfErr}
 use Rattle.tbl_kinds.specs.Numbers.{piece, two_at, four_at}
 use Rattle.tbl_kinds.specs.Check.{check16}
 use Rattle.tbl_kinds.specs.declared.block.Block.{Block}
+use Rattle.tbl_kinds.specs.Places.{bank_size}
 use Rattle.tbl_outside.specs.Counts.{Still, RoseAlone}
-use Rattle.cds_layout.specs.Images.{data_in, kept_length, kept_word, held_by, shown_in}
+use Rattle.tbl_outside.specs.declared.bank.Bank.{Ghosts}
+use Rattle.cds_layout.specs.Entries.{is_right}
+use Rattle.cds_layout.specs.Images.{data_in, kept_length, kept_word, turn_in, held_by, shown_in}
+use Rattle.cds_layout.specs.declared.turns.Turns.{Turns}
 use Rattle.cds_layout.specs.declared.turns.Place.{Place}
+use Rattle.cds_layout.specs.declared.turns.Place.TheVariants.{First, Second}
 use Rattle.cds_layout.specs.declared.blocks.RestoreFault.{RestoreFault}
 use Rattle.cds_layout.specs.declared.blocks.RestoreFault.TheVariants.{NoImage, Torn, Fault}
 
 -- the place that shows holds no image: what its head states, and the check word of its bytes
-pub record IsTorn (bytes : List ℕ) (b : Block) (place : Place) (length kept found : ℕ) : Type 0 where
+pub record IsTorn (bytes : List ℕ) (b : Block) (place : Place) (long kept found : ℕ) : Type 0 where
   pub no_image : held_by bytes b (Some place) ≡ None
-  pub stated : length ≡ kept_length bytes b place
+  pub stated : long ≡ kept_length bytes b place
   pub kept_is : kept ≡ kept_word bytes b place
   pub computed : found ≡ check16 (data_in bytes b place)
 
@@ -38,12 +43,22 @@ SaysWhy size (Torn length kept found) = (length ≢ size) ⊎ (kept ≢ found)
 SaysWhy size NoImage = Unit {0}
 SaysWhy size Fault = Unit {0}
 
--- where the bytes of a place were read, whole or torn
-abbrev pub IfRead : {A : Type 0} → Result A RestoreFault → Type 0 → Type 0
-IfRead (Ok x) P = P
-IfRead (Err (Torn length kept found)) P = P
-IfRead (Err NoImage) P = Unit {0}
-IfRead (Err Fault) P = Unit {0}
+-- what is asked of a read into so many bytes: the bank has room for a store, of which this can be a block of this size
+pub record Fits {B : Type 0} (g : Ghosts B) (bank : B) (b : Block) (into : List ℕ) : Type 0 where
+  pub size : length into ≡ b.size
+  pub right : is_right b ≡ true
+  pub room : bank_size ≤ g.size bank
+
+-- what was read of the place that shows: its image, or why there is none
+pub record TellsHeld {B : Type 0} (g : Ghosts B) (bank : B) (b : Block) (shown : Option Place) (into : List ℕ) (result : Result Unit RestoreFault) : Type 0 where
+  pub whole : OnOk result (g.tells → held_by (g.now bank) b shown ≡ Some into)
+  pub torn : IfErr result (λ fault. g.tells → TellsAt (g.now bank) b shown fault)
+  pub why : IfErr result (SaysWhy b.size)
+
+-- the turns of a slot's block
+pub record AreTurns (bytes : List ℕ) (slot : ℕ) (turns : Turns) : Type 0 where
+  pub first : turns.first ≡ turn_in bytes slot First
+  pub second : turns.second ≡ turn_in bytes slot Second
 
 -- whether the bytes were read, whole or torn
 abbrev pub was_read : {A : Type 0} → Result A RestoreFault → Bool

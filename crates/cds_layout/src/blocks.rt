@@ -1,16 +1,14 @@
 //! A block in the bank: two places, each with a head of 8 bytes and those of an image, of which one shows at most.
 
-ghost use Rattle.std.specs.Prelude.{◌≡◌, ◌+◌, ◌<◌, ◌≤◌, ◌^◌, [], ◌∷◌, Some, true, false, is_ok, length, take, OnOk, OnErr, IfOk, IfErr};
+ghost use Rattle.std.specs.Prelude.{◌≡◌, ◌+◌, ◌<◌, ◌≤◌, ◌^◌, Some, true, false, length, take, IfOk};
 ghost use Rattle.tbl_kinds.specs.Check.{check16};
 ghost use Rattle.tbl_kinds.specs.Places.{bank_size};
-ghost use Rattle.tbl_outside.specs.Bank.{LeavesOnly};
-ghost use Rattle.tbl_outside.specs.BankCalls.{Asks, read};
-ghost use Rattle.tbl_outside.specs.Counts.{Still, RoseAlone};
 ghost use Rattle.cds_layout.specs.Directory.{is_first_version};
 ghost use Rattle.cds_layout.specs.Entries.{slot_count, is_right};
-ghost use Rattle.cds_layout.specs.Images.{block_head, head_len, spelled, turn_in, is_whole, held_by, held_in};
-ghost use Rattle.cds_layout.specs.Order.{turn_calls, place_calls, restore_calls};
-ghost use Rattle.cds_layout.specs.Restores.{TellsAt, TellsTorn, SaysWhy, RestoreCounted, was_read, words, compared, is_whole_place};
+ghost use Rattle.cds_layout.specs.Images.{block_head, spelled, is_whole, shown_in};
+ghost use Rattle.cds_layout.specs.Looks.{OnlyReads, Looks, LookAsks, ending, restore_ending};
+ghost use Rattle.cds_layout.specs.Order.{turn_calls, place_calls, restore_calls, first_calls};
+ghost use Rattle.cds_layout.specs.Restores.{Fits, AreTurns, TellsHeld, words, compared, is_whole_place};
 ghost use Rattle.cds_layout.specs.declared.turns.Place.TheVariants as place;
 
 use crate::places::{HEAD_LENGTH, place_offset, turns_place};
@@ -104,18 +102,9 @@ fn compare(head: &[u8], size: u32, bytes: &[u8]) -> Result<(), RestoreFault>
 pub fn read_turns<B: Bank>(bank: &mut B, slot: u8) -> Result<Turns, Failed>
     requires within { slot < slot_count }
     requires bank { bank_size ≤ B.size bank.old }
-    ensures first { IfOk result (λ turns. B.tells → turns.first ≡ turn_in (B.now bank.old) slot place.First) }
-    ensures second { IfOk result (λ turns. B.tells → turns.second ≡ turn_in (B.now bank.old) slot place.Second) }
-
-    ensures kept { B.tells → B.now bank.new ≡ B.now bank.old }
-    ensures moments { B.tells_moments →
-        LeavesOnly B.clock B.left_since bank.old bank.new (λ image. image ≡ B.now bank.old) }
-    ensures size { B.size bank.new ≡ B.size bank.old }
-    ensures still { OnOk result (Still B.faults B.stops bank.old bank.new) }
-    ensures fault { OnErr result (RoseAlone B.faults B.stops bank.old bank.new) }
-    ensures fault_count { B.faults bank.old ≤ B.faults bank.new }
-    ensures stop_count { B.stops bank.old ≤ B.stops bank.new }
-    ensures bank_calls { Asks B.tells_calls B.calls bank.old bank.new (is_ok result) (turn_calls slot) }
+    ensures turns { IfOk result (λ turns. B.tells → AreTurns (B.now bank.old) slot turns) }
+    ensures reads { OnlyReads B.Bank bank.old bank.new (ending result) }
+    ensures bank_calls { LookAsks B.Bank bank.old bank.new (turn_calls slot) (ending result) }
 {
     let mut bytes = [0; 2];
     bank.read_at(turns_place(slot), &mut bytes)?;
@@ -130,21 +119,9 @@ pub(crate) fn read_place<B: Bank>(
     place: Place,
     into: &mut [u8],
 ) -> Result<(), RestoreFault>
-    requires size { length into.old ≡ block.now.size }
-    requires right { is_right block.now ≡ true }
-    requires bank { bank_size ≤ B.size bank.old }
-    ensures whole { OnOk result (B.tells → held_by (B.now bank.old) block.now (Some place) ≡ Some into.new) }
-    ensures torn { IfErr result (λ fault. B.tells → TellsAt (B.now bank.old) block.now (Some place) fault) }
-    ensures why { IfErr result (λ fault. SaysWhy block.now.size fault) }
-
-    ensures kept { B.tells → B.now bank.new ≡ B.now bank.old }
-    ensures moments { B.tells_moments →
-        LeavesOnly B.clock B.left_since bank.old bank.new (λ image. image ≡ B.now bank.old) }
-    ensures size { B.size bank.new ≡ B.size bank.old }
-    ensures counted { RestoreCounted B.faults B.stops bank.old bank.new result }
-    ensures fault_count { B.faults bank.old ≤ B.faults bank.new }
-    ensures stop_count { B.stops bank.old ≤ B.stops bank.new }
-    ensures bank_calls { Asks B.tells_calls B.calls bank.old bank.new (was_read result) (place_calls block.now (Some place)) }
+    requires fits { Fits B.Bank bank.old block.now into.old }
+    ensures tells { TellsHeld B.Bank bank.old block.now (Some place) into.new result }
+    ensures looks { Looks B.Bank bank.old bank.new (place_calls block.now (Some place)) (restore_ending result) }
 {
     let at = place_offset(block, place);
     let mut head = [0; 8];
@@ -164,21 +141,9 @@ pub(crate) fn read_shown<B: Bank>(
     shown: Option<Place>,
     into: &mut [u8],
 ) -> Result<(), RestoreFault>
-    requires size { length into.old ≡ block.now.size }
-    requires right { is_right block.now ≡ true }
-    requires bank { bank_size ≤ B.size bank.old }
-    ensures whole { OnOk result (B.tells → held_by (B.now bank.old) block.now shown ≡ Some into.new) }
-    ensures torn { IfErr result (λ fault. B.tells → TellsAt (B.now bank.old) block.now shown fault) }
-    ensures why { IfErr result (λ fault. SaysWhy block.now.size fault) }
-
-    ensures kept { B.tells → B.now bank.new ≡ B.now bank.old }
-    ensures moments { B.tells_moments →
-        LeavesOnly B.clock B.left_since bank.old bank.new (λ image. image ≡ B.now bank.old) }
-    ensures size { B.size bank.new ≡ B.size bank.old }
-    ensures counted { RestoreCounted B.faults B.stops bank.old bank.new result }
-    ensures fault_count { B.faults bank.old ≤ B.faults bank.new }
-    ensures stop_count { B.stops bank.old ≤ B.stops bank.new }
-    ensures bank_calls { Asks B.tells_calls B.calls bank.old bank.new (was_read result) (place_calls block.now shown) }
+    requires fits { Fits B.Bank bank.old block.now into.old }
+    ensures tells { TellsHeld B.Bank bank.old block.now shown into.new result }
+    ensures looks { Looks B.Bank bank.old bank.new (place_calls block.now shown) (restore_ending result) }
 {
     match shown {
         Some(place) => read_place(bank, block, place, into),
@@ -194,24 +159,11 @@ pub fn read_block<B: Bank>(
     block: &Block,
     into: &mut [u8],
 ) -> Result<(), RestoreFault>
-    requires size { length into.old ≡ block.now.size }
+    requires fits { Fits B.Bank bank.old block.now into.old }
     requires within { slot < slot_count }
-    requires right { is_right block.now ≡ true }
-    requires bank { bank_size ≤ B.size bank.old }
     requires version { B.tells → is_first_version (B.now bank.old) ≡ false }
-    ensures whole { OnOk result (B.tells → held_in (B.now bank.old) slot block.now ≡ Some into.new) }
-    ensures torn { IfErr result (λ fault. B.tells → TellsTorn (B.now bank.old) slot block.now fault) }
-    ensures why { IfErr result (λ fault. SaysWhy block.now.size fault) }
-
-    ensures kept { B.tells → B.now bank.new ≡ B.now bank.old }
-    ensures moments { B.tells_moments →
-        LeavesOnly B.clock B.left_since bank.old bank.new (λ image. image ≡ B.now bank.old) }
-    ensures size { B.size bank.new ≡ B.size bank.old }
-    ensures counted { RestoreCounted B.faults B.stops bank.old bank.new result }
-    ensures fault_count { B.faults bank.old ≤ B.faults bank.new }
-    ensures stop_count { B.stops bank.old ≤ B.stops bank.new }
-    ensures bank_calls { B.tells →
-        Asks B.tells_calls B.calls bank.old bank.new (was_read result) (restore_calls (B.now bank.old) slot block.now) }
+    ensures tells { TellsHeld B.Bank bank.old block.now (shown_in (B.now bank.old) slot) into.new result }
+    ensures looks { Looks B.Bank bank.old bank.new (restore_calls (B.now bank.old) slot block.now) (restore_ending result) }
 {
     match read_turns(bank, slot) {
         Ok(turns) => read_shown(bank, block, turns.shown(), into),
@@ -234,18 +186,8 @@ pub fn read_first<B: Bank>(bank: &mut B, block: &Block, room: &mut [u8]) -> Resu
     requires right { is_right block.now ≡ true }
     requires bank { bank_size ≤ B.size bank.old }
     ensures whole { IfOk result (λ whole. B.tells → whole ≡ is_whole (B.now bank.old) block.now place.First) }
-    ensures room { length room.new ≡ 16392 }
-
-    ensures kept { B.tells → B.now bank.new ≡ B.now bank.old }
-    ensures moments { B.tells_moments →
-        LeavesOnly B.clock B.left_since bank.old bank.new (λ image. image ≡ B.now bank.old) }
-    ensures size { B.size bank.new ≡ B.size bank.old }
-    ensures still { OnOk result (Still B.faults B.stops bank.old bank.new) }
-    ensures fault { OnErr result (RoseAlone B.faults B.stops bank.old bank.new) }
-    ensures fault_count { B.faults bank.old ≤ B.faults bank.new }
-    ensures stop_count { B.stops bank.old ≤ B.stops bank.new }
-    ensures bank_calls { Asks B.tells_calls B.calls bank.old bank.new (is_ok result)
-        (read block.now.offset (head_len + block.now.size) ∷ []) }
+    ensures reads { OnlyReads B.Bank bank.old bank.new (ending result) }
+    ensures bank_calls { LookAsks B.Bank bank.old bank.new (first_calls block.now) (ending result) }
 {
     let end = 8 + block.size as usize;
     bank.read_at(block.offset, &mut room[..end])?;

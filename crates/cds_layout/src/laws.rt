@@ -1,13 +1,14 @@
 //! Laws of the layout: what is written is read again, and whatever the bytes are, the blocks can be there together.
 
-ghost use Rattle.std.specs.Prelude.{◌≡◌, ◌≢◌, ◌+◌, ◌<◌, ◌≤◌, ℕ, List, [], ◌∷◌, length, Bool, true, false, Option, Some, None, slice_index_or};
+ghost use Rattle.std.specs.Prelude.{◌≡◌, ◌+◌, ◌<◌, ◌≤◌, ℕ, List, [], ◌∷◌, length, Bool, true, false, Option, Some};
 ghost use Rattle.tbl_kinds.specs.Numbers.{piece};
 ghost use Rattle.tbl_kinds.specs.Records.{FitsField};
 ghost use Rattle.tbl_kinds.specs.declared.block.Block.{Block};
 ghost use Rattle.cds_layout.specs.Entries.{slot_count, tail_len, told_len, entry_tail, is_right, block_in};
 ghost use Rattle.tbl_kinds.specs.declared.request.ResetKind.TheVariants.{Processor};
 ghost use Rattle.tbl_outside.specs.BankCalls.{BankCall, read, Makes};
-ghost use Rattle.cds_layout.specs.Directory.{directory_len, agree, directory_of, is_live, is_first_version};
+ghost use Rattle.cds_layout.specs.Directory.{directory_len, directory_of, is_live, is_first_version};
+ghost use Rattle.cds_layout.specs.Lines.{CanBeTogether};
 ghost use Rattle.cds_layout.specs.Images.{block_head, head_len};
 ghost use Rattle.cds_layout.specs.Order.{restore_calls, copy_calls, reserve_calls, delete_calls, is_stray, boot_calls};
 
@@ -25,9 +26,7 @@ pub fn written_parts_fill_their_places()
 /// Whatever the bytes of a bank are, each block of its directory lies in the bank after the directory, and no two of them
 /// have a byte, or kind and name, in common.
 pub fn blocks_can_be_there_together()
-    ensures slots { (bytes : List ℕ) → length (directory_of bytes) ≡ slot_count }
-    ensures right { (bytes : List ℕ) (slot : ℕ) (b : Block) → slice_index_or (directory_of bytes) slot None ≡ Some b → is_right b ≡ true }
-    ensures agree { (bytes : List ℕ) (i j : ℕ) (a b : Block) → i ≢ j → slice_index_or (directory_of bytes) i None ≡ Some a → slice_index_or (directory_of bytes) j None ≡ Some b → agree a b ≡ true }
+    ensures { (bytes : List ℕ) → CanBeTogether (directory_of bytes) }
 {}
 
 /// The directory depends on the first bytes of a bank alone.

@@ -6,6 +6,7 @@
 mod blocks;
 mod directory;
 mod entry;
+mod front;
 mod laws;
 mod listing;
 mod places;
@@ -15,6 +16,7 @@ mod turns;
 pub use blocks::{RestoreFault, head_bytes, read_block, read_first, read_turns, spell};
 pub use directory::{Directory, is_first_version, is_live, read_directory};
 pub use entry::entry_bytes;
+pub use front::read_front;
 pub use laws::{
     a_boot_without_strays_only_reads, a_call_asks_at_most_four_times, blocks_can_be_there_together,
     directory_stands_in_the_first_bytes, written_entries_are_read, written_parts_fill_their_places,

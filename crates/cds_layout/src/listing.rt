@@ -1,22 +1,22 @@
 //! A look into a bank: the text of the store that it holds.
 
-ghost use Rattle.std.specs.Prelude.{◌≡◌, ◌≢◌, ◌<◌, ◌≤◌, [], ◌∷◌, ◌++◌, true, Err, is_ok, is_some, length, replicate, IfOk, OnOk, OnErr};
-ghost use Rattle.std.specs.Option.{option_map};
-ghost use Rattle.tbl_kinds.specs.Numbers.{piece};
+ghost use Rattle.std.specs.Prelude.{◌≡◌, ◌<◌, ◌≤◌, [], ◌∷◌, ◌++◌, None, true, is_some, length, replicate, slice_index_or, IfOk, OnOk};
 ghost use Rattle.tbl_kinds.specs.Places.{bank_size};
-ghost use Rattle.tbl_outside.specs.Bank.{LeavesOnly};
-ghost use Rattle.tbl_outside.specs.BankCalls.{Asks, read};
-ghost use Rattle.tbl_outside.specs.Counts.{Rose, Still};
+ghost use Rattle.tbl_kinds.specs.StoreSteps.{stored_at};
+ghost use Rattle.tbl_outside.specs.BankCalls.{read};
 ghost use Rattle.cds_layout.specs.Entries.{slot_count, is_right};
-ghost use Rattle.cds_layout.specs.Directory.{directory_len, directory_of};
-ghost use Rattle.cds_layout.specs.Images.{held_by, stored_in, stored_from, store_of};
+ghost use Rattle.cds_layout.specs.Directory.{directory_len};
+ghost use Rattle.cds_layout.specs.Fronts.{WasReadOf};
+ghost use Rattle.cds_layout.specs.Images.{held_by, store_of};
+ghost use Rattle.cds_layout.specs.Looks.{Looks, ending, text_ending};
 ghost use Rattle.cds_layout.specs.Order.{look_at, looked_to, place_calls, text_calls};
 ghost use Rattle.cds_layout.specs.Texts.{lines_from, text_of};
-ghost use Rattle.cds_layout.specs.Lines.{IsRightAt, AreRight, line_at, last_line_of, listing};
+ghost use Rattle.cds_layout.specs.Lines.{line_at, last_line_of};
 
 use crate::blocks::{RestoreFault, read_shown};
-use crate::directory::{Directory, read_directory, shown_place};
-use crate::places::{BLOCKS_BEGIN, MOST_IMAGE};
+use crate::directory::{Directory, shown_place};
+use crate::front::read_front;
+use crate::places::{BLOCKS_BEGIN, MOST_IMAGE, SLOTS};
 use crate::text::{count_of, put_last_line, put_line, room_of};
 use crate::turns::Place;
 use std::alloc::{AllocError, Global};
@@ -92,16 +92,7 @@ fn is_whole<B: Bank>(
     requires right { is_right block.now ≡ true }
     requires bank { bank_size ≤ B.size bank.old }
     ensures whole { IfOk result (λ whole. B.tells → whole ≡ is_some (held_by (B.now bank.old) block.now shown)) }
-
-    ensures kept { B.tells → B.now bank.new ≡ B.now bank.old }
-    ensures moments { B.tells_moments →
-        LeavesOnly B.clock B.left_since bank.old bank.new (λ image. image ≡ B.now bank.old) }
-    ensures size { B.size bank.new ≡ B.size bank.old }
-    ensures fault { OnErr result (Rose (B.faults bank.old) (B.faults bank.new)) }
-    ensures fault_count { B.faults bank.old ≤ B.faults bank.new }
-    ensures stop_count { B.stops bank.old ≤ B.stops bank.new }
-    ensures still { OnOk result (Still B.faults B.stops bank.old bank.new) }
-    ensures bank_calls { Asks B.tells_calls B.calls bank.old bank.new (is_ok result) (place_calls block.now shown) }
+    ensures looks { Looks B.Bank bank.old bank.new (place_calls block.now shown) (ending result) }
 {
     let size = block.size as usize;
     match read_shown(bank, block, shown, &mut image[..size]) {
@@ -115,35 +106,21 @@ fn is_whole<B: Bank>(
 /// Appends the line of a slot, or nothing where it has no block.
 fn put_slot<B: Bank>(
     bank: &mut B,
-    front: &[u8],
+    front: &Front,
     slot: u8,
-    place: &Option<Block>,
     image: &mut [u8],
     out: &mut Bytes,
 ) -> Result<(), TextFault>
     requires image { length image.old ≡ 16384 }
-    requires right { IsRightAt place.now }
     requires within { slot < slot_count }
-    requires len { length front.now ≡ directory_len }
-    requires front { B.tells → front.now ≡ piece 0 directory_len (B.now bank.old) }
-    requires bank { bank_size ≤ B.size bank.old }
-    ensures text { OnOk result (B.tells →
-        out.new.list ≡ out.old.list ++ line_at slot (option_map (stored_in (B.now bank.old) slot) place.now)) }
-
-    ensures kept { B.tells → B.now bank.new ≡ B.now bank.old }
-    ensures moments { B.tells_moments →
-        LeavesOnly B.clock B.left_since bank.old bank.new (λ image. image ≡ B.now bank.old) }
-    ensures size { B.size bank.new ≡ B.size bank.old }
-    ensures fault { result ≡ Err TextFault.Fault → Rose (B.faults bank.old) (B.faults bank.new) }
-    ensures fault_count { B.faults bank.old ≤ B.faults bank.new }
-    ensures stop_count { B.stops bank.old ≤ B.stops bank.new }
-    ensures still { (result ≢ Err TextFault.Fault) → Still B.faults B.stops bank.old bank.new }
-    ensures bank_calls { B.tells → (result ≢ Err TextFault.Memory) → Asks B.tells_calls B.calls bank.old bank.new (is_ok result) (look_at (B.now bank.old) slot place.now) }
+    requires front { WasReadOf B.Bank bank.old front.now }
+    ensures text { OnOk result (B.tells → out.new.list ≡ out.old.list ++ line_at slot (stored_at (store_of (B.now bank.old)) slot)) }
+    ensures looks { Looks B.Bank bank.old bank.new (look_at (B.now bank.old) slot (slice_index_or front.now.directory slot None)) (text_ending result) }
 {
-    match place {
+    match front.directory.slot(slot) {
         None => Ok(()),
         Some(block) => {
-            let whole = is_whole(bank, block, shown_place(front, slot), image)?;
+            let whole = is_whole(bank, block, shown_place(&front.bytes, slot), image)?;
             put_line(out, slot, block, whole)?;
             Ok(())
         }
@@ -153,124 +130,51 @@ fn put_slot<B: Bank>(
 /// Appends the lines of all slots.
 fn put_slots<B: Bank>(
     bank: &mut B,
-    front: &[u8],
-    places: &[Option<Block>],
+    front: &Front,
     image: &mut [u8],
     out: &mut Bytes,
 ) -> Result<(), TextFault>
     requires image { length image.old ≡ 16384 }
-    requires slots { length places.now ≡ slot_count }
-    requires right { AreRight places.now }
-    requires len { length front.now ≡ directory_len }
-    requires front { B.tells → front.now ≡ piece 0 directory_len (B.now bank.old) }
-    requires bank { bank_size ≤ B.size bank.old }
-    ensures text { OnOk result (B.tells →
-        out.new.list ≡ out.old.list ++ lines_from 0 (stored_from (B.now bank.old) 0 places.now)) }
-
-    ensures kept { B.tells → B.now bank.new ≡ B.now bank.old }
-    ensures moments { B.tells_moments →
-        LeavesOnly B.clock B.left_since bank.old bank.new (λ image. image ≡ B.now bank.old) }
-    ensures size { B.size bank.new ≡ B.size bank.old }
-    ensures fault { result ≡ Err TextFault.Fault → Rose (B.faults bank.old) (B.faults bank.new) }
-    ensures fault_count { B.faults bank.old ≤ B.faults bank.new }
-    ensures stop_count { B.stops bank.old ≤ B.stops bank.new }
-    ensures still { (result ≢ Err TextFault.Fault) → Still B.faults B.stops bank.old bank.new }
-    ensures bank_calls { B.tells → (result ≢ Err TextFault.Memory) → Asks B.tells_calls B.calls bank.old bank.new (is_ok result) (looked_to slot_count (B.now bank.old) places.now) }
+    requires front { WasReadOf B.Bank bank.old front.now }
+    ensures text { OnOk result (B.tells → out.new.list ≡ out.old.list ++ lines_from 0 (store_of (B.now bank.old))) }
+    ensures looks { Looks B.Bank bank.old bank.new (looked_to slot_count (B.now bank.old) front.now.directory) (text_ending result) }
 {
-    for (slot, place) in places.iter().enumerate() {
-        put_slot(bank, front, slot as u8, place, image, out)?;
+    for slot in 0..SLOTS {
+        put_slot(bank, front, slot, image, out)?;
     }
     Ok(())
 }
 
 /// Appends the line for all blocks.
-fn put_summary(out: &mut Bytes, places: &[Option<Block>]) -> Result<(), Memory>
-    requires { length places.now ≡ slot_count }
-    ensures { OnOk result (out.new.list ≡ out.old.list ++ last_line_of places.now) }
+fn put_summary(out: &mut Bytes, directory: &Directory) -> Result<(), Memory>
+    ensures { OnOk result (out.new.list ≡ out.old.list ++ last_line_of directory.now) }
 {
+    let places = directory.places();
     put_last_line(out, count_of(places), room_of(places))
-}
-
-/// Reads the directory of a bank, by way of a buffer of its size.
-fn fill_directory<B: Bank>(
-    bank: &mut B,
-    bytes: &mut [u8],
-    directory: &mut Directory,
-) -> Result<(), Failed>
-    requires buffer { length bytes.old ≡ directory_len }
-    requires bank { bank_size ≤ B.size bank.old }
-    ensures read { OnOk result (B.tells → directory.new ≡ directory_of (B.now bank.old)) }
-    ensures right { OnOk result (AreRight directory.new) }
-    ensures front { OnOk result (B.tells → bytes.new ≡ piece 0 directory_len (B.now bank.old)) }
-    ensures len { length bytes.new ≡ directory_len }
-
-    ensures kept { B.tells → B.now bank.new ≡ B.now bank.old }
-    ensures moments { B.tells_moments →
-        LeavesOnly B.clock B.left_since bank.old bank.new (λ image. image ≡ B.now bank.old) }
-    ensures size { B.size bank.new ≡ B.size bank.old }
-    ensures fault { OnErr result (Rose (B.faults bank.old) (B.faults bank.new)) }
-    ensures fault_count { B.faults bank.old ≤ B.faults bank.new }
-    ensures stop_count { B.stops bank.old ≤ B.stops bank.new }
-    ensures still { OnOk result (Still B.faults B.stops bank.old bank.new) }
-    ensures bank_calls { Asks B.tells_calls B.calls bank.old bank.new (is_ok result) (read 0 directory_len ∷ []) }
-{
-    bank.read_at(0, bytes)?;
-    read_directory(bytes, directory);
-    Ok(())
 }
 
 /// Reads the first bytes of a bank, and the directory that they tell.
 fn load_front<B: Bank>(alloc: Global, bank: &mut B) -> Result<Front, TextFault>
     requires { bank_size ≤ B.size bank.old }
-    ensures read { IfOk result (λ front. B.tells → front.directory ≡ directory_of (B.now bank.old)) }
-    ensures right { IfOk result (λ front. AreRight front.directory) }
-    ensures front { IfOk result (λ front. B.tells → front.bytes.items ≡ piece 0 directory_len (B.now bank.old)) }
-    ensures len { IfOk result (λ front. length front.bytes.items ≡ directory_len) }
-
-    ensures kept { B.tells → B.now bank.new ≡ B.now bank.old }
-    ensures moments { B.tells_moments →
-        LeavesOnly B.clock B.left_since bank.old bank.new (λ image. image ≡ B.now bank.old) }
-    ensures size { B.size bank.new ≡ B.size bank.old }
-    ensures fault { result ≡ Err TextFault.Fault → Rose (B.faults bank.old) (B.faults bank.new) }
-    ensures fault_count { B.faults bank.old ≤ B.faults bank.new }
-    ensures stop_count { B.stops bank.old ≤ B.stops bank.new }
-    ensures still { (result ≢ Err TextFault.Fault) → Still B.faults B.stops bank.old bank.new }
-    ensures bank_calls { (result ≢ Err TextFault.Memory) → Asks B.tells_calls B.calls bank.old bank.new (is_ok result) (read 0 directory_len ∷ []) }
+    ensures front { IfOk result (WasReadOf B.Bank bank.new) }
+    ensures looks { Looks B.Bank bank.old bank.new (read 0 directory_len ∷ []) (text_ending result) }
 {
     let mut directory = Directory::make(alloc)?;
     let mut bytes = zeros(alloc, BLOCKS_BEGIN as usize)?;
-    fill_directory(bank, &mut bytes, &mut directory)?;
+    read_front(bank, &mut bytes, &mut directory)?;
     Ok(Front { bytes, directory })
 }
 
 /// The lines of all slots, and the line for all blocks.
-fn listed<B: Bank>(
-    alloc: Global,
-    bank: &mut B,
-    front: &[u8],
-    places: &[Option<Block>],
-) -> Result<Bytes, TextFault>
-    requires slots { length places.now ≡ slot_count }
-    requires right { AreRight places.now }
-    requires len { length front.now ≡ directory_len }
-    requires front { B.tells → front.now ≡ piece 0 directory_len (B.now bank.old) }
-    requires bank { bank_size ≤ B.size bank.old }
-    ensures text { IfOk result (λ text. B.tells → text.list ≡ listing (B.now bank.old) places.now) }
-
-    ensures kept { B.tells → B.now bank.new ≡ B.now bank.old }
-    ensures moments { B.tells_moments →
-        LeavesOnly B.clock B.left_since bank.old bank.new (λ image. image ≡ B.now bank.old) }
-    ensures size { B.size bank.new ≡ B.size bank.old }
-    ensures fault { result ≡ Err TextFault.Fault → Rose (B.faults bank.old) (B.faults bank.new) }
-    ensures fault_count { B.faults bank.old ≤ B.faults bank.new }
-    ensures stop_count { B.stops bank.old ≤ B.stops bank.new }
-    ensures still { (result ≢ Err TextFault.Fault) → Still B.faults B.stops bank.old bank.new }
-    ensures bank_calls { B.tells → (result ≢ Err TextFault.Memory) → Asks B.tells_calls B.calls bank.old bank.new (is_ok result) (looked_to slot_count (B.now bank.old) places.now) }
+fn listed<B: Bank>(alloc: Global, bank: &mut B, front: &Front) -> Result<Bytes, TextFault>
+    requires front { WasReadOf B.Bank bank.old front.now }
+    ensures text { IfOk result (λ text. B.tells → text.list ≡ text_of (store_of (B.now bank.old))) }
+    ensures looks { Looks B.Bank bank.old bank.new (looked_to slot_count (B.now bank.old) front.now.directory) (text_ending result) }
 {
     let mut image = zeros(alloc, MOST_IMAGE as usize)?;
     let mut out = Bytes::make(alloc, 0)?;
-    put_slots(bank, front, places, &mut image, &mut out)?;
-    put_summary(&mut out, places)?;
+    put_slots(bank, front, &mut image, &mut out)?;
+    put_summary(&mut out, &front.directory)?;
     Ok(out)
 }
 
@@ -281,17 +185,8 @@ fn listed<B: Bank>(
 pub fn store_text<B: Bank>(alloc: Global, bank: &mut B) -> Result<Bytes, TextFault>
     requires { bank_size ≤ B.size bank.old }
     ensures text { IfOk result (λ text. B.tells → text.list ≡ text_of (store_of (B.now bank.old))) }
-
-    ensures kept { B.tells → B.now bank.new ≡ B.now bank.old }
-    ensures moments { B.tells_moments →
-        LeavesOnly B.clock B.left_since bank.old bank.new (λ image. image ≡ B.now bank.old) }
-    ensures size { B.size bank.new ≡ B.size bank.old }
-    ensures fault { result ≡ Err TextFault.Fault → Rose (B.faults bank.old) (B.faults bank.new) }
-    ensures fault_count { B.faults bank.old ≤ B.faults bank.new }
-    ensures stop_count { B.stops bank.old ≤ B.stops bank.new }
-    ensures still { (result ≢ Err TextFault.Fault) → Still B.faults B.stops bank.old bank.new }
-    ensures bank_calls { B.tells → (result ≢ Err TextFault.Memory) → Asks B.tells_calls B.calls bank.old bank.new (is_ok result) (text_calls (B.now bank.old)) }
+    ensures looks { Looks B.Bank bank.old bank.new (text_calls (B.now bank.old)) (text_ending result) }
 {
     let front = load_front(alloc, bank)?;
-    listed(alloc, bank, &front.bytes, front.directory.places())
+    listed(alloc, bank, &front)
 }

@@ -1,19 +1,18 @@
 -- A store of the first version is carried over: each write of it leaves the blocks with what they hold.
-use Rattle.std.proofs.Common.{◌≡◌, inl, inr, ℕ, zero, suc, ◌+◌, ◌<◌, ◌≤◌, ◌==◌, List, [], ◌∷◌, ◌++◌, length, drop, slice_index_or, Bool, true, false, cond, Option, Some, None, refl, sym, ◌∙◌, ap, subst, arith, append_assoc}
+use Rattle.std.proofs.Common.{◌≡◌, inl, inr, ℕ, zero, suc, ◌+◌, ◌<◌, ◌≤◌, ◌==◌, List, [], ◌∷◌, ◌++◌, length, drop, slice_index_or, Bool, true, false, cond, Option, Some, None, refl, sym, ◌∙◌, ap, subst, arith}
 use Rattle.std.specs.Option.{option_map}
 use Rattle.std.proofs.lemmas.Bool.{cases_Bool, cases_lt}
 use Rattle.std.proofs.lemmas.Option.{same_Some}
-use Rattle.std.proofs.lemmas.List.{get_or-take, get_or-drop, append-nil}
+use Rattle.std.proofs.lemmas.List.{get_or-take, get_or-drop}
 use Rattle.tbl_kinds.specs.Numbers.{piece, patched, byte_at}
 use Rattle.tbl_kinds.specs.Places.{bank_size}
 use Rattle.tbl_kinds.specs.declared.block.Block.{Block}
 use Rattle.tbl_outside.specs.Bank.{Torn}
-use Rattle.tbl_outside.specs.BankCalls.{BankCall, read, write, Asks}
-use Rattle.tbl_outside.proofs.BankCalls.{asks_then, asks_no_more}
+use Rattle.tbl_outside.specs.BankCalls.{write}
 use Rattle.cds_layout.specs.Directory.{directory_of, is_live, is_first_version, version_place}
 use Rattle.cds_layout.specs.Entries.{slot_count, gate_at, told_at, turns_place, turns_len, turn_place}
-use Rattle.cds_layout.specs.Images.{head_len, is_whole, data_in, turn_in, turned_in, held_by, held_in}
-use Rattle.cds_layout.specs.Order.{carried_turns, carry_at, carried_to}
+use Rattle.cds_layout.specs.Images.{is_whole, data_in, turn_in, turned_in, held_by, held_in}
+use Rattle.cds_layout.specs.Order.{carried_turns, first_calls, carry_at}
 use Rattle.cds_layout.specs.Turns.{turn_of, shown_by}
 use Rattle.cds_layout.specs.declared.turns.Place.{Place}
 use Rattle.cds_layout.specs.declared.turns.Place.TheVariants.{First, Second}
@@ -204,54 +203,6 @@ carry_alike old now n first carried = by (slice_index_or (directory_of old) n No
     by : (o : Option Block) → slice_index_or (directory_of old) n None ≡ o → carry_at now n o ≡ carry_at old n o
     by None there = refl
     by (Some b) there =
-        ap (λ (w : Bool). read b.offset (head_len + b.size) ∷ write (turns_place n) (carried_turns w) ∷ [])
+        ap (λ (w : Bool). first_calls b ++ write (turns_place n) (carried_turns w) ∷ [])
         (same_whole (data_in now b First) (data_in old b First) (is_whole now b First) (is_whole old b First)
         (sym (held_first now n b carried.version) ∙ carried.same.held n b there ∙ held_first old n b first))
-
-carried_none : (bytes : List ℕ) (directory : List (Option Block)) → carried_to 0 bytes directory ≡ []
-unfolding carried_to
-carried_none bytes directory = refl
-
-carried_more : (n : ℕ) (bytes : List ℕ) (directory : List (Option Block)) → carried_to (suc n) bytes directory ≡ carried_to n bytes directory ++ carry_at bytes n (slice_index_or directory n None)
-unfolding carried_to
-carried_more n bytes directory = refl
-
-next : (n : ℕ) → suc n ≡ n + 1
-next n = omega arith
-
-carried_split : (bytes : List ℕ) (directory : List (Option Block)) (k n : ℕ) → k ≤ n → (rest : List BankCall) × (carried_to n bytes directory ≡ carried_to k bytes directory ++ rest)
-carried_split bytes directory k zero le =
-    let none : k ≡ 0 = omega (arith, le) in
-    ([], subst (λ i. carried_to 0 bytes directory ≡ carried_to i bytes directory ++ []) (sym none) (sym (append-nil (carried_to 0 bytes directory))))
-carried_split bytes directory k (suc n) le =
-    elim (cases_lt k (suc n)) [
-      | inl lt ↦
-          let before = carried_split bytes directory k n (omega (arith, lt)) in (
-            before.0 ++ carry_at bytes n (slice_index_or directory n None),
-            carried_more n bytes directory ∙ ap (λ (l : List BankCall). l ++ carry_at bytes n (slice_index_or directory n None)) before.1
-                ∙ append_assoc (carried_to k bytes directory) before.0 (carry_at bytes n (slice_index_or directory n None)),
-          )
-      | inr past ↦
-          let same : k ≡ suc n = omega (arith, le, past) in
-          ([], subst (λ i. carried_to (suc n) bytes directory ≡ carried_to i bytes directory ++ []) (sym same) (sym (append-nil (carried_to (suc n) bytes directory))))
-    ]
-
-module _ {B : Type 0} (tells_calls : B → Type 0) (calls_of : B → List BankCall) (bytes : List ℕ) (directory : List (Option Block)) where
-  pub bank_calls_none : (bank : B) → Asks tells_calls calls_of bank bank true (carried_to 0 bytes directory)
-  bank_calls_none bank told = rw (carried_none bytes directory) (told, refl)
-
-  pub bank_calls_more : (old mid new : B) (k : ℕ) → Asks tells_calls calls_of old mid true (carried_to k bytes directory)
-      → Asks tells_calls calls_of mid new true (carry_at bytes k (slice_index_or directory k None))
-      → Asks tells_calls calls_of old new true (carried_to (k + 1) bytes directory)
-  bank_calls_more old mid new k so_far call =
-      subst (Asks tells_calls calls_of old new true) (sym (carried_more k bytes directory) ∙ ap (λ n. carried_to n bytes directory) (next k))
-      (asks_then tells_calls calls_of old mid new true (carried_to k bytes directory) (carry_at bytes k (slice_index_or directory k None)) so_far call)
-
-  pub bank_calls_broke : (old mid new : B) (k n : ℕ) → k < n → Asks tells_calls calls_of old mid true (carried_to k bytes directory)
-      → Asks tells_calls calls_of mid new false (carry_at bytes k (slice_index_or directory k None))
-      → Asks tells_calls calls_of old new false (carried_to n bytes directory)
-  bank_calls_broke old mid new k n lt so_far call =
-      let split = carried_split bytes directory (suc k) n (omega (arith, lt)) in
-      subst (Asks tells_calls calls_of old new false) (ap (λ (l : List BankCall). l ++ split.0) (sym (carried_more k bytes directory)) ∙ sym split.1)
-      (asks_no_more tells_calls calls_of old new (carried_to k bytes directory ++ carry_at bytes k (slice_index_or directory k None)) split.0
-      (asks_then tells_calls calls_of old mid new false (carried_to k bytes directory) (carry_at bytes k (slice_index_or directory k None)) so_far call))

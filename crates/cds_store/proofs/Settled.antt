@@ -15,8 +15,9 @@ use Rattle.tbl_kinds.specs.declared.request.ResetKind.TheVariants.{Processor, Po
 use Rattle.cds_layout.specs.Entries.{slot_count}
 use Rattle.cds_layout.specs.Directory.{directory_len, directory_of}
 use Rattle.cds_layout.specs.Images.{held_in, stored_in, store_of}
+use Rattle.cds_layout.specs.Lines.{IsRightAt, CanBeTogether}
 use Rattle.cds_layout.proofs.Directories.{length-directory_of}
-use Rattle.cds_layout.proofs.DirectoryLaws.{directory-right, directory-agree_both}
+use Rattle.cds_layout.proofs.DirectoryLaws.{directory-together}
 use Rattle.cds_store.specs.Boots.{SameStore, IsTidy, IsCleared, Clears, BeginsAt, opened_slot, is_doubtful_slot, is_doubtful_at, is_found, found_open, found_in, found_to}
 use Rattle.tbl_outside.specs.BankCalls.{BankCall}
 use Rattle.tbl_outside.specs.declared.bank.Bank.{Ghosts}
@@ -41,15 +42,15 @@ opened_parts (Some b) s is = rw (← same_Some (opened_slot b) s is) (refl, refl
 slots_at : (directory : List (Option Block)) (n : ℕ) → slot_at (map (option_map opened_slot) directory) n ≡ option_map opened_slot (slice_index_or directory n None)
 slots_at directory n = get_or-map (option_map opened_slot) directory n None
 
-pub directory_together : (bytes : List ℕ) → AreTogether (map (option_map opened_slot) (directory_of bytes))
-directory_together bytes = record {
-  all_slots = length-map (directory_of bytes) (option_map opened_slot) ∙ length-directory_of bytes;
-  right = λ n s there. directory-right bytes n s.block (opened_parts (slice_index_or (directory_of bytes) n None) s (sym (slots_at (directory_of bytes) n) ∙ there)).0;
-  apart = λ n m differ a at_n b at_m.
-      directory-agree_both bytes n m a.block b.block differ
-      (opened_parts (slice_index_or (directory_of bytes) n None) a (sym (slots_at (directory_of bytes) n) ∙ at_n)).0
-      (opened_parts (slice_index_or (directory_of bytes) m None) b (sym (slots_at (directory_of bytes) m) ∙ at_m)).0;
+opened_together : (directory : List (Option Block)) → CanBeTogether directory → AreTogether (map (option_map opened_slot) directory)
+opened_together directory together = record {
+  all_slots = length-map directory (option_map opened_slot) ∙ together.slots;
+  right = λ n s there. subst IsRightAt (block_there n s there) (together.right n);
+  apart = λ n m differ a at_n b at_m. together.apart n m a.block b.block differ (block_there n a at_n) (block_there m b at_m);
 }
+  where
+    block_there : (n : ℕ) (s : Slot) → slot_at (map (option_map opened_slot) directory) n ≡ Some s → slice_index_or directory n None ≡ Some s.block
+    block_there n s there = (opened_parts (slice_index_or directory n None) s (sym (slots_at directory n) ∙ there)).0
 
 pub tidy_matches : (old now : List ℕ) → IsTidy old now → Matches now (map (option_map opened_slot) (directory_of old))
 tidy_matches old now tidy = record {
@@ -152,7 +153,7 @@ module _ (old now : List ℕ) (found : List ℕ) (blocks : Blocks) (tidy : IsTid
   pub settled_stands : MatchesBlocks now (map (option_map opened_slot) (directory_of old)) (settled_from found 0 blocks)
   settled_stands = record {
     same = settled_same;
-    together = directory_together old;
+    together = opened_together (directory_of old) (directory-together old);
     matches = tidy_matches old now tidy;
     held = λ n b there.
         let gives = (settles_at n (settled_within n b there)).holds b (sym (at_zero n) ∙ there) in
@@ -265,9 +266,9 @@ module _ {B : Type 0} (tells : Type 0) (size : B → ℕ) (now : B → List ℕ)
   power_on_leaves told blocks begins image (inr emptied) = inr (refl, emptied_shows image emptied)
 
   module _ (new_slots : List (Option Slot)) (new : B) (directory : List (Option Block)) (is : tells → directory ≡ directory_of (now bank)) (new_is : new_slots ≡ map (option_map opened_slot) directory) (tidy : tells → IsTidy (now bank) (now new)) where
-    pub processor_sound : (front : List ℕ) → directory ≡ directory_of front → bank_size ≤ size new → IsSound tells size now (kept new_slots new)
-    processor_sound front told_by room = record {
-      together = subst AreTogether (sym (new_is ∙ ap (map (option_map opened_slot)) told_by)) (directory_together front);
+    pub processor_sound : CanBeTogether directory → bank_size ≤ size new → IsSound tells size now (kept new_slots new)
+    processor_sound apart room = record {
+      together = subst AreTogether (sym new_is) (opened_together directory apart);
       room = room;
       matches = λ booted_is told. subst (Matches (now new)) (sym (new_is ∙ ap (map (option_map opened_slot)) (is told))) (tidy_matches (now bank) (now new) (tidy told));
     }

@@ -18,7 +18,8 @@ use Rattle.cds_layout.proofs.Stored.{stored_there, length-store}
 use Rattle.tbl_outside.specs.Bank.{LeavesOnly}
 use Rattle.tbl_outside.specs.declared.bank.Bank.{Ghosts}
 use Rattle.tbl_outside.proofs.Moments.{started}
-use Rattle.cds_store.specs.Boots.{IsFront, SameStore, Tidied, IsTidy, IsEmptied, opened_slot}
+use Rattle.cds_store.specs.Boots.{SameStore, Tidied, IsTidy, IsEmptied, opened_slot}
+use Rattle.cds_layout.specs.Fronts.{IsFront}
 use Rattle.cds_store.specs.Moments.{ShowsIn}
 use Rattle.cds_store.specs.Sound.{EntryIs}
 use Rattle.cds_store.proofs.Frames.{IsApart, gate_stays, told_stays, live_stays, version_stays, held_stays, gate_clear}

@@ -22,15 +22,6 @@ Meanwhile g old new IsLeft = g.tells_moments → LeavesOnly g.clock g.left_since
 abbrev pub AsksFor : {A B : Type 0} → Ghosts B → B → B → List BankCall → Result A BankFault → Type 0
 AsksFor g old new calls result = Asks g.tells_calls g.calls old new (is_ok result) calls
 
--- a step that reads: the bytes stay
-pub record Reads {A B : Type 0} (g : Ghosts B) (old new : B) (calls : List BankCall) (result : Result A BankFault) : Type 0 where
-  pub kept : g.tells → g.now new ≡ g.now old
-  pub moments : Meanwhile g old new (λ image. image ≡ g.now old)
-  pub steady : Steady g.size g.faults g.stops old new
-  pub counted : CallCounted g.faults g.stops old new result
-  pub bank_calls : AsksFor g old new calls result
-  pub flags : IfErr result (HasFlags false false)
-
 -- one write, of these bytes from a place on: whole, or torn if it broke off, of which its fault says so much
 pub record Writes {B : Type 0} (g : Ghosts B) (old new : B) (at : ℕ) (bytes : List ℕ) (SaysSo : BankFault → Type 0) (result : Result Unit BankFault) : Type 0 where
   pub done : OnOk result (g.tells → g.now new ≡ patched (g.now old) at bytes)
@@ -41,7 +32,7 @@ pub record Writes {B : Type 0} (g : Ghosts B) (old new : B) (at : ℕ) (bytes : 
   pub bank_calls : AsksFor g old new (write at bytes ∷ []) result
   pub flags : IfErr result SaysSo
 
--- what a step keeps to, whatever it writes, if it closes no doubtful block in the way of another
+-- what a step of a boot keeps to, whatever it writes: it closes no doubtful block in the way of another
 pub record Keeps {A B : Type 0} (g : Ghosts B) (old new : B) (result : Result A BankFault) : Type 0 where
   pub steady : Steady g.size g.faults g.stops old new
   pub counted : CallCounted g.faults g.stops old new result
@@ -54,13 +45,18 @@ pub record Changes {A B : Type 0} (g : Ghosts B) (old new : B) (IsDone IsLeft : 
   pub moments : Meanwhile g old new IsLeft
   pub bank_calls : g.tells → AsksFor g old new calls result
 
+-- both
+pub record BootStep {A B : Type 0} (g : Ghosts B) (old new : B) (IsDone IsLeft : List ℕ → Type 0) (calls : List BankCall) (result : Result A BankFault) : Type 0 where
+  pub keeps : Keeps g old new result
+  pub changes : Changes g old new IsDone IsLeft calls result
+
 -- the bank becomes one that is tidy, and keeps its blocks meanwhile
 abbrev pub Tidies : {A B : Type 0} → Ghosts B → B → B → List BankCall → Result A BankFault → Type 0
-Tidies g old new calls result = Changes g old new (IsTidy (g.now old)) (SameStore (g.now old)) calls result
+Tidies g old new calls result = BootStep g old new (IsTidy (g.now old)) (SameStore (g.now old)) calls result
 
 -- it becomes one that is cleared
 abbrev pub ClearsAll : {A B : Type 0} → Ghosts B → B → B → List BankCall → Result A BankFault → Type 0
-ClearsAll g old new calls result = Changes g old new IsCleared (Clears (g.now old)) calls result
+ClearsAll g old new calls result = BootStep g old new IsCleared (Clears (g.now old)) calls result
 
 -- a step over slots and bank: what it makes of the blocks once it is done, and where it breaks off, and what a reset leaves meanwhile
 pub record Alters {B : Type 0} (g : Ghosts B) (old new : StoreParts B) (done : Blocks → Blocks) (broken : BankFault → Blocks → Blocks) (IsLeft : Blocks → List ℕ → Type 0) (result : Result Unit BankFault) : Type 0 where

@@ -18,17 +18,6 @@ use Rattle.cds_store.specs.Sound.{slot_at, EntryIs}
 use Rattle.cds_store.specs.StoreBlocks.{StoreParts, StandsFor}
 use Rattle.cds_store.specs.declared.slot.Slot.{Slot}
 
--- the first bytes of the bank, and the directory that they give
-pub record IsFront (front : List ℕ) (directory : List (Option Block)) (bytes : List ℕ) : Type 0 where
-  pub read : front ≡ piece 0 directory_len bytes
-  pub told : directory ≡ directory_of bytes
-
--- these were read of the bank, which has room for a store
-pub record WasRead {B : Type 0} (g : Ghosts B) (bank : B) (front : List ℕ) (directory : List (Option Block)) : Type 0 where
-  pub len : length front ≡ directory_len
-  pub room : bank_size ≤ g.size bank
-  pub is : g.tells → IsFront front directory (g.now bank)
-
 -- the same blocks are open, with the same images
 pub record SameStore (old image : List ℕ) : Type 0 where
   pub directory : directory_of image ≡ directory_of old

@@ -11,15 +11,15 @@ ghost use Rattle.tbl_outside.specs.Bank.{LeavesOnly};
 ghost use Rattle.tbl_outside.specs.BankCalls.{Asks, read};
 ghost use Rattle.cds_layout.specs.Directory.{directory_len, directory_of, is_live};
 ghost use Rattle.cds_layout.specs.Entries.{slot_count};
-ghost use Rattle.cds_store.specs.Boots.{WasRead, IsFront, SameStore, IsTidy, IsCleared, Clears, AreZeros, BeginsAt, opened_slot, found_open, found_by};
+ghost use Rattle.cds_store.specs.Boots.{SameStore, IsTidy, IsCleared, Clears, AreZeros, BeginsAt, opened_slot, found_open, found_by};
 ghost use Rattle.cds_layout.specs.Images.{store_of};
 ghost use Rattle.cds_layout.specs.Order.{clear_calls, strays_to, carry_calls, boot_writes, boot_calls};
-ghost use Rattle.cds_layout.specs.Lines.{AreRight};
+ghost use Rattle.cds_layout.specs.Fronts.{WasRead};
 ghost use Rattle.cds_store.specs.Calls.{Steady, CallCounted, is_old};
 ghost use Rattle.cds_store.specs.Moments.{BootLeaves};
 ghost use Rattle.cds_store.specs.Sound.{SoundOver, IsSound};
 ghost use Rattle.cds_store.specs.StoreBlocks.{StandsFor, kept};
-ghost use Rattle.cds_store.specs.BankSteps.{ClearsAll, Tidies, Reads, Keeps, Changes};
+ghost use Rattle.cds_store.specs.BankSteps.{ClearsAll, Tidies};
 ghost use Rattle.cds_store.specs.Promises.{Boots};
 
 use crate::carrying::carry;
@@ -28,34 +28,9 @@ use crate::fault::BankFault;
 use crate::settling::{find_found, forget_all, open_all};
 use crate::slot::Slot;
 use crate::tidying::tidy_live;
-use cds_layout::{Directory, ENTRIES_PLACE, is_live, read_directory};
+use cds_layout::{Directory, ENTRIES_PLACE, is_live, read_front};
 use tbl_kinds::{ResetKind, Slots};
-use tbl_outside::{Bank, Failed};
-
-/// Reads the first bytes of the bank, and the directory that they give.
-pub(crate) fn read_front<B: Bank>(
-    bank: &mut B,
-    front: &mut [u8],
-    directory: &mut Directory,
-) -> Result<(), BankFault>
-    requires len { length front.old ≡ directory_len }
-    requires room { bank_size ≤ B.size bank.old }
-    ensures front { OnOk result (B.tells → IsFront front.new directory.new (B.now bank.old)) }
-    ensures directory { OnOk result (directory.new ≡ directory_of front.new) }
-    ensures len { length front.new ≡ directory_len }
-    ensures reads { Reads B.Bank bank.old bank.new (read 0 directory_len ∷ []) result }
-{
-    match bank.read_at(0, front) {
-        Ok(()) => {
-            read_directory(front, directory);
-            Ok(())
-        }
-        Err(Failed) => Err(BankFault::Fault {
-            gate: false,
-            old: false,
-        }),
-    }
-}
+use tbl_outside::Bank;
 
 #[tactic(auto, using(crate::proofs::Emptied::zeros_replicate))]
 fn zero_all(bytes: &mut [u8])
@@ -87,9 +62,7 @@ pub(crate) fn clear_all<B: Bank>(bank: &mut B, front: &mut [u8]) -> Result<(), B
     requires len { length front.old ≡ directory_len }
     requires room { bank_size ≤ B.size bank.old }
     requires read { B.tells → front.old ≡ piece 0 directory_len (B.now bank.old) }
-    ensures len { length front.new ≡ directory_len }
-    ensures keeps { Keeps B.Bank bank.old bank.new result }
-    ensures changes { ClearsAll B.Bank bank.old bank.new (clear_calls (B.now bank.old)) result }
+    ensures { ClearsAll B.Bank bank.old bank.new (clear_calls (B.now bank.old)) result }
 {
     let first = first_of(front);
     zero_all(front);
@@ -105,11 +78,8 @@ fn renew<B: Bank>(
 ) -> Result<(), BankFault>
     requires front { WasRead B.Bank bank.old front.now directory.now }
     requires buffer { length room.old ≡ 16392 }
-    requires right { AreRight directory.now }
     requires live { B.tells → is_live (B.now bank.old) ≡ true }
-    ensures buffer { length room.new ≡ 16392 }
-    ensures keeps { Keeps B.Bank bank.old bank.new result }
-    ensures changes { Tidies B.Bank bank.old bank.new
+    ensures { Tidies B.Bank bank.old bank.new
         (strays_to slot_count (B.now bank.old) (directory_of (B.now bank.old)) ++ carry_calls (B.now bank.old)) result }
 {
     tidy_live(bank, front, directory)?;
@@ -125,11 +95,7 @@ fn tidy<B: Bank>(
 ) -> Result<(), BankFault>
     requires front { WasRead B.Bank bank.old front.old directory.now }
     requires buffer { length room.old ≡ 16392 }
-    requires right { AreRight directory.now }
-    ensures len { length front.new ≡ directory_len }
-    ensures buffer { length room.new ≡ 16392 }
-    ensures keeps { Keeps B.Bank bank.old bank.new result }
-    ensures changes { Tidies B.Bank bank.old bank.new
+    ensures { Tidies B.Bank bank.old bank.new
         (boot_writes Processor (B.now bank.old)) result }
 {
     if is_live(front) {
@@ -148,17 +114,12 @@ pub(crate) fn boot_processor<B: Bank>(
     directory: &Directory,
 ) -> Result<Slots, BankFault>
     requires slots { length slots.old.items ≡ slot_count }
-    requires directory { length directory.now ≡ slot_count }
-    requires right { AreRight directory.now }
     requires buffer { length room.old ≡ 16392 }
     requires front { WasRead B.Bank bank.old front.old directory.now }
-    ensures len { length front.new ≡ directory_len }
-    ensures buffer { length room.new ≡ 16392 }
     ensures found { IfOk result (λ found. found ≡ found_open slots.old.items directory.now) }
     ensures slots { OnOk result (slots.new.items ≡ map (option_map opened_slot) directory.now) }
     ensures err { OnErr result (slots.new.items ≡ slots.old.items) }
-    ensures keeps { Keeps B.Bank bank.old bank.new result }
-    ensures changes { Tidies B.Bank bank.old bank.new
+    ensures step { Tidies B.Bank bank.old bank.new
         (boot_writes Processor (B.now bank.old)) result }
 {
     tidy(bank, front, room, directory)?;
@@ -177,12 +138,10 @@ pub(crate) fn boot_power_on<B: Bank>(
     requires len { length front.old ≡ directory_len }
     requires room { bank_size ≤ B.size bank.old }
     requires read { B.tells → front.old ≡ piece 0 directory_len (B.now bank.old) }
-    ensures len { length front.new ≡ directory_len }
     ensures found { IfOk result (λ found. found ≡ []) }
     ensures slots { OnOk result (slots.new.items ≡ replicate (length slots.old.items) None) }
     ensures err { OnErr result (slots.new.items ≡ slots.old.items) }
-    ensures keeps { Keeps B.Bank bank.old bank.new result }
-    ensures changes { ClearsAll B.Bank bank.old bank.new (boot_writes PowerOn (B.now bank.old)) result }
+    ensures step { ClearsAll B.Bank bank.old bank.new (boot_writes PowerOn (B.now bank.old)) result }
 {
     clear_all(bank, front)?;
     forget_all(slots);
@@ -201,9 +160,6 @@ fn boot_as<B: Bank>(
     requires slots { length slots.old.items ≡ slot_count }
     requires front { WasRead B.Bank bank.old front.old directory.now }
     requires buffer { length room.old ≡ 16392 }
-    requires directory { directory.now ≡ directory_of front.old }
-    ensures len { length front.new ≡ directory_len }
-    ensures buffer { length room.new ≡ 16392 }
     ensures sound { OnOk result (SoundOver B.Bank slots.new.items bank.new) }
     ensures err { OnErr result (slots.new.items ≡ slots.old.items) }
     ensures boots { Boots B.Bank (kept slots.old.items bank.old) (kept slots.new.items bank.new) kind
@@ -228,8 +184,6 @@ pub(crate) fn boot<B: Bank>(
     requires len { length front.old ≡ directory_len }
     requires buffer { length room.old ≡ 16392 }
     requires room { bank_size ≤ B.size bank.old }
-    ensures len { length front.new ≡ directory_len }
-    ensures buffer { length room.new ≡ 16392 }
     ensures sound { OnOk result (SoundOver B.Bank slots.new.items bank.new) }
     ensures err { OnErr result (slots.new.items ≡ slots.old.items) }
     ensures boots { Boots B.Bank (kept slots.old.items bank.old) (kept slots.new.items bank.new) kind

@@ -8,13 +8,14 @@ ghost use Rattle.tbl_outside.specs.Bank.{LeavesOnly};
 ghost use Rattle.tbl_outside.specs.BankCalls.{Asks, read, write};
 ghost use Rattle.cds_layout.specs.Directory.{directory_len, directory_of, version_place};
 ghost use Rattle.cds_layout.specs.Entries.{slot_count, is_right};
+ghost use Rattle.cds_layout.specs.Fronts.{IsFront};
 ghost use Rattle.cds_layout.specs.Lines.{AreRight};
 ghost use Rattle.cds_layout.specs.Images.{head_len, is_whole};
 ghost use Rattle.cds_layout.specs.Order.{carried_turns, carry_at, carried_to, carry_calls};
 ghost use Rattle.cds_layout.specs.declared.turns.Place.TheVariants as place;
-ghost use Rattle.cds_store.specs.Boots.{IsFront, SameStore, Tidied, Carried, IsTidy};
+ghost use Rattle.cds_store.specs.Boots.{SameStore, Tidied, Carried, IsTidy};
 ghost use Rattle.cds_store.specs.Calls.{Steady, CallCounted, is_old};
-ghost use Rattle.cds_store.specs.BankSteps.{Reads, Keeps, Changes};
+ghost use Rattle.cds_store.specs.BankSteps.{Keeps, Changes};
 
 use crate::fault::BankFault;
 use crate::writes::write;
@@ -23,7 +24,7 @@ use cds_layout::{
     turns_place,
 };
 use tbl_kinds::Block;
-use tbl_outside::{Bank, Failed};
+use tbl_outside::Bank;
 
 /// The turn bytes that make the first place show, if it is whole.
 fn carried_turns(whole: bool) -> [u8; 2]
@@ -33,24 +34,6 @@ fn carried_turns(whole: bool) -> [u8; 2]
         [turn_byte(Turn::Zero), 0]
     } else {
         [0, 0]
-    }
-}
-
-/// Whether the first place of a block is whole.
-fn first_shows<B: Bank>(bank: &mut B, block: &Block, room: &mut [u8]) -> Result<bool, BankFault>
-    requires right { is_right block.now ≡ true }
-    requires buffer { length room.old ≡ 16392 }
-    requires room { bank_size ≤ B.size bank.old }
-    ensures buffer { length room.new ≡ 16392 }
-    ensures whole { IfOk result (λ whole. B.tells → whole ≡ is_whole (B.now bank.old) block.now place.First) }
-    ensures reads { Reads B.Bank bank.old bank.new (read block.now.offset (head_len + block.now.size) ∷ []) result }
-{
-    match read_first(bank, block, room) {
-        Ok(whole) => Ok(whole),
-        Err(Failed) => Err(BankFault::Fault {
-            gate: false,
-            old: false,
-        }),
     }
 }
 
@@ -65,14 +48,13 @@ fn carry_block<B: Bank>(
     requires right { is_right block.now ≡ true }
     requires buffer { length room.old ≡ 16392 }
     requires room { bank_size ≤ B.size bank.old }
-    ensures buffer { length room.new ≡ 16392 }
     ensures keeps { Keeps B.Bank bank.old bank.new result }
     ensures changes { (old : List ℕ) → (B.tells → slice_index_or (directory_of old) slot None ≡ Some block.now) →
         (B.tells → Carried old (B.now bank.old) slot) →
         Changes B.Bank bank.old bank.new (λ image. Carried old image (slot + 1)) (SameStore old)
         (carry_at (B.now bank.old) slot (Some block.now)) result }
 {
-    let whole = first_shows(bank, block, room)?;
+    let whole = read_first(bank, block, room)?;
     write(bank, turns_place(slot), &carried_turns(whole), false, false)
 }
 
@@ -87,7 +69,6 @@ fn carry_slot<B: Bank>(
     requires right { AreRight directory.now }
     requires buffer { length room.old ≡ 16392 }
     requires room { bank_size ≤ B.size bank.old }
-    ensures buffer { length room.new ≡ 16392 }
     ensures keeps { Keeps B.Bank bank.old bank.new result }
     ensures changes { (old : List ℕ) → (B.tells → directory.now ≡ directory_of old) → (B.tells → Carried old (B.now bank.old) slot) →
         Changes B.Bank bank.old bank.new (λ image. Carried old image (slot + 1)) (SameStore old)
@@ -108,7 +89,6 @@ fn carry_blocks<B: Bank>(
     requires right { AreRight directory.now }
     requires buffer { length room.old ≡ 16392 }
     requires room { bank_size ≤ B.size bank.old }
-    ensures buffer { length room.new ≡ 16392 }
     ensures keeps { Keeps B.Bank bank.old bank.new result }
     ensures changes { (old : List ℕ) → (B.tells → directory.now ≡ directory_of old) → (B.tells → Carried old (B.now bank.old) 0) →
         Changes B.Bank bank.old bank.new (λ image. Carried old image slot_count) (SameStore old)
@@ -139,7 +119,6 @@ fn carry_over<B: Bank>(
     requires right { AreRight directory.now }
     requires buffer { length room.old ≡ 16392 }
     requires room { bank_size ≤ B.size bank.old }
-    ensures buffer { length room.new ≡ 16392 }
     ensures keeps { Keeps B.Bank bank.old bank.new result }
     ensures changes { (old : List ℕ) → (B.tells → directory.now ≡ directory_of old) → (B.tells → Carried old (B.now bank.old) 0) →
         Changes B.Bank bank.old bank.new (IsTidy old) (SameStore old)
@@ -161,7 +140,6 @@ pub(crate) fn carry<B: Bank>(
     requires right { AreRight directory.now }
     requires buffer { length room.old ≡ 16392 }
     requires room { bank_size ≤ B.size bank.old }
-    ensures buffer { length room.new ≡ 16392 }
     ensures keeps { Keeps B.Bank bank.old bank.new result }
     ensures changes { (old : List ℕ) → (B.tells → IsFront front.now directory.now old) →
         (B.tells → Tidied old (B.now bank.old) slot_count) →

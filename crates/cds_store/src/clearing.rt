@@ -8,7 +8,7 @@ ghost use Rattle.tbl_outside.specs.BankCalls.{Asks, write};
 ghost use Rattle.cds_layout.specs.Order.{clear_by};
 ghost use Rattle.cds_store.specs.Boots.{is_dead, HasMark, AllShut, AreZeros, IsCleared, IsEmptied, Clears};
 ghost use Rattle.cds_store.specs.Calls.{Steady, CallCounted, is_old};
-ghost use Rattle.cds_store.specs.BankSteps.{ClearsAll, Keeps, Changes};
+ghost use Rattle.cds_store.specs.BankSteps.{ClearsAll, BootStep};
 
 use crate::fault::BankFault;
 use crate::writes::write;
@@ -25,8 +25,7 @@ const MARK_PLACE: u32 = 1;
 fn close_live<B: Bank>(bank: &mut B, first: u8) -> Result<(), BankFault>
     requires room { bank_size ≤ B.size bank.old }
     requires read { B.tells → first ≡ byte_at 0 (B.now bank.old) }
-    ensures keeps { Keeps B.Bank bank.old bank.new result }
-    ensures changes { Changes B.Bank bank.old bank.new (λ image. is_dead image ≡ true) (Clears (B.now bank.old)) (if first == 0x43 then write 0 (0 ∷ []) ∷ [] else []) result }
+    ensures { BootStep B.Bank bank.old bank.new (λ image. is_dead image ≡ true) (Clears (B.now bank.old)) (if first == 0x43 then write 0 (0 ∷ []) ∷ [] else []) result }
 {
     if first == LIVE {
         write(bank, 0, &[0], false, false)
@@ -40,8 +39,7 @@ fn write_mark<B: Bank>(bank: &mut B) -> Result<(), BankFault>
     requires room { bank_size ≤ B.size bank.old }
     requires dead { B.tells → is_dead (B.now bank.old) ≡ true }
     ensures dead { B.tells → is_dead (B.now bank.new) ≡ true }
-    ensures keeps { Keeps B.Bank bank.old bank.new result }
-    ensures changes { Changes B.Bank bank.old bank.new HasMark IsEmptied (write 1 (0x44 ∷ 0x53 ∷ 0x32 ∷ replicate 12 0) ∷ []) result }
+    ensures step { BootStep B.Bank bank.old bank.new HasMark IsEmptied (write 1 (0x44 ∷ 0x53 ∷ 0x32 ∷ replicate 12 0) ∷ []) result }
 {
     write(
         bank,
@@ -60,8 +58,7 @@ fn write_entries<B: Bank>(bank: &mut B, zeros: &[u8]) -> Result<(), BankFault>
     requires len { length zeros.now ≡ 8192 }
     requires zeros { AreZeros zeros.now }
     ensures mark { B.tells → HasMark (B.now bank.new) }
-    ensures keeps { Keeps B.Bank bank.old bank.new result }
-    ensures changes { Changes B.Bank bank.old bank.new AllShut IsEmptied (write 16 zeros.now ∷ []) result }
+    ensures step { BootStep B.Bank bank.old bank.new AllShut IsEmptied (write 16 zeros.now ∷ []) result }
 {
     write(bank, ENTRIES_PLACE, zeros, false, false)
 }
@@ -71,8 +68,7 @@ fn open_live<B: Bank>(bank: &mut B) -> Result<(), BankFault>
     requires room { bank_size ≤ B.size bank.old }
     requires mark { B.tells → HasMark (B.now bank.old) }
     requires shut { B.tells → AllShut (B.now bank.old) }
-    ensures keeps { Keeps B.Bank bank.old bank.new result }
-    ensures changes { Changes B.Bank bank.old bank.new IsCleared IsEmptied (write 0 (0x43 ∷ []) ∷ []) result }
+    ensures { BootStep B.Bank bank.old bank.new IsCleared IsEmptied (write 0 (0x43 ∷ []) ∷ []) result }
 {
     write(bank, 0, &[LIVE], false, false)
 }
@@ -84,8 +80,7 @@ pub(crate) fn clear<B: Bank>(bank: &mut B, first: u8, zeros: &[u8]) -> Result<()
     requires read { B.tells → first ≡ byte_at 0 (B.now bank.old) }
     requires len { length zeros.now ≡ 8192 }
     requires zeros { AreZeros zeros.now }
-    ensures keeps { Keeps B.Bank bank.old bank.new result }
-    ensures changes { ClearsAll B.Bank bank.old bank.new (clear_by first zeros.now) result }
+    ensures { ClearsAll B.Bank bank.old bank.new (clear_by first zeros.now) result }
 {
     close_live(bank, first)?;
     write_mark(bank)?;

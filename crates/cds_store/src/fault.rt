@@ -1,3 +1,4 @@
+use tbl_outside::Failed;
 use thiserror::Error;
 
 /// How a write of a call broke off. The call did nothing after it.
@@ -19,6 +20,21 @@ pub enum BankFault {
         /// Whether it was of the gate byte of a doubtful block that is closed before another is made.
         old: bool,
     },
+}
+
+impl From<Failed> for BankFault {
+    ghost use Rattle.std.specs.Prelude.{◌≡◌, false};
+    ghost use Rattle.cds_store.specs.declared.fault.BankFault.TheVariants as fault;
+
+    ghost from_gives = { λ _ e. e ≡ fault.Fault false false };
+
+    /// A read failed, so no gate byte was written.
+    fn from(_failed: Failed) -> BankFault {
+        BankFault::Fault {
+            gate: false,
+            old: false,
+        }
+    }
 }
 
 /// Why no block was reserved.

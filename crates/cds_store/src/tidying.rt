@@ -1,15 +1,16 @@
 //! The gates of a live bank that have no block are closed.
 
-ghost use Rattle.std.specs.Prelude.{◌≡◌, ◌≤◌, ◌<◌, ◌+◌, List, ℕ, [], true, false, length, is_ok, OnOk, IfErr, if◌then◌else◌};
+ghost use Rattle.std.specs.Prelude.{◌≡◌, ◌≤◌, ◌<◌, ◌+◌, List, ℕ, [], true, false, length, is_ok, OnOk, IfErr};
 ghost use Rattle.tbl_kinds.specs.Places.{bank_size};
 ghost use Rattle.tbl_outside.specs.Bank.{LeavesOnly};
 ghost use Rattle.tbl_outside.specs.BankCalls.{Asks};
 ghost use Rattle.cds_layout.specs.Directory.{directory_len, is_live};
 ghost use Rattle.cds_layout.specs.Entries.{slot_count};
-ghost use Rattle.cds_layout.specs.Order.{is_stray, strays_to, delete_calls};
-ghost use Rattle.cds_store.specs.Boots.{WasRead, IsFront, SameStore, Tidied};
+ghost use Rattle.cds_layout.specs.Fronts.{IsFront, WasRead};
+ghost use Rattle.cds_layout.specs.Order.{is_stray, close_stray, strays_to};
+ghost use Rattle.cds_store.specs.Boots.{SameStore, Tidied};
 ghost use Rattle.cds_store.specs.Calls.{Steady, CallCounted, is_old};
-ghost use Rattle.cds_store.specs.BankSteps.{Keeps, Changes};
+ghost use Rattle.cds_store.specs.BankSteps.{Keeps, Changes, BootStep};
 
 use crate::fault::BankFault;
 use crate::writes::set_gate;
@@ -38,7 +39,7 @@ fn tidy_slot<B: Bank>(
     ensures keeps { Keeps B.Bank bank.old bank.new result }
     ensures changes { (old : List ℕ) → (B.tells → IsFront front.now directory.now old) → (B.tells → Tidied old (B.now bank.old) slot) →
         Changes B.Bank bank.old bank.new (λ image. Tidied old image (slot + 1)) (SameStore old)
-        (if is_stray front.now directory.now slot then delete_calls slot else []) result }
+        (close_stray front.now directory.now slot) result }
 {
     if is_stray(front, directory, slot) {
         set_gate(bank, slot, GATE_CLOSED, false)
@@ -55,8 +56,7 @@ pub(crate) fn tidy_live<B: Bank>(
 ) -> Result<(), BankFault>
     requires front { WasRead B.Bank bank.old front.now directory.now }
     requires live { B.tells → is_live (B.now bank.old) ≡ true }
-    ensures keeps { Keeps B.Bank bank.old bank.new result }
-    ensures changes { Changes B.Bank bank.old bank.new (λ image. Tidied (B.now bank.old) image slot_count) (SameStore (B.now bank.old))
+    ensures { BootStep B.Bank bank.old bank.new (λ image. Tidied (B.now bank.old) image slot_count) (SameStore (B.now bank.old))
         (strays_to slot_count front.now directory.now) result }
 {
     for slot in 0..SLOTS {

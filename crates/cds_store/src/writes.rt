@@ -13,16 +13,16 @@ ghost use Rattle.cds_layout.specs.Turns.{byte_of};
 ghost use Rattle.cds_layout.specs.declared.turns.Place.TheVariants as place;
 ghost use Rattle.cds_store.specs.Calls.{Steady, CallCounted, HasFlags, is_gate, is_old};
 ghost use Rattle.cds_store.specs.Moments.{TearsBy, CopyTears, copied_bytes};
-ghost use Rattle.cds_store.specs.BankSteps.{Reads, Writes, CopiesBytes};
+ghost use Rattle.cds_store.specs.BankSteps.{Writes, CopiesBytes};
 
 use crate::fault::BankFault;
 use cds_layout::{
-    HEAD_LENGTH, Place, Turn, Turns, entry_bytes, gate_place, place_offset, read_turns, spell,
+    HEAD_LENGTH, Place, Turn, entry_bytes, gate_place, place_offset, read_turns, spell,
     turn_byte, turn_place,
 };
 use check_word::Checked;
 use tbl_kinds::Block;
-use tbl_outside::{Bank, Failed, Written};
+use tbl_outside::{Bank, Written};
 
 /// Writes over a piece, which may be a gate byte, also that of a doubtful block.
 pub(crate) fn write<B: Bank>(
@@ -77,23 +77,6 @@ pub(crate) fn write_entry<B: Bank>(bank: &mut B, slot: u8, block: &Block) -> Res
     )
 }
 
-/// Reads the turns of a slot's block.
-fn turns_of<B: Bank>(bank: &mut B, slot: u8) -> Result<Turns, BankFault>
-    requires within { slot < slot_count }
-    requires room { bank_size ≤ B.size bank.old }
-    ensures first { IfOk result (λ turns. B.tells → turns.first ≡ turn_in (B.now bank.old) slot place.First) }
-    ensures second { IfOk result (λ turns. B.tells → turns.second ≡ turn_in (B.now bank.old) slot place.Second) }
-    ensures reads { Reads B.Bank bank.old bank.new (turn_calls slot) result }
-{
-    match read_turns(bank, slot) {
-        Ok(turns) => Ok(turns),
-        Err(Failed) => Err(BankFault::Fault {
-            gate: false,
-            old: false,
-        }),
-    }
-}
-
 /// Writes the turn byte of a place, which makes that place show.
 fn write_turn<B: Bank>(bank: &mut B, slot: u8, place: Place, turn: Turn) -> Result<(), BankFault>
     requires within { slot < slot_count }
@@ -138,7 +121,7 @@ fn write_spelled<B: Bank>(
     requires room { bank_size ≤ B.size bank.old }
     ensures copies { CopiesBytes B.Bank bank.old bank.new slot block.now place_bytes.now result }
 {
-    let turns = turns_of(bank, slot)?;
+    let turns = read_turns(bank, slot)?;
     let place = turns.hidden();
     match write_place(bank, block, place, place_bytes) {
         Ok(()) => write_turn(bank, slot, place, turns.opened()),

@@ -46,7 +46,7 @@ returns-clause-boots g c =
       counted = search rules;
       bank_calls = λ told.
           asks_then b.tells_calls b.calls c.args.bank.now c.read_front.new.bank c.boot_as.new.bank (is_ok c.boot_as.result) (read 0 directory_len ∷ []) (boot_writes c.args.kind (b.now c.args.bank.now))
-          c.in_ok-read_front.ensures.reads.bank_calls
+          c.in_ok-read_front.ensures.bank_calls
           (subst (λ (l : List ℕ). Asks b.tells_calls b.calls c.read_front.new.bank c.boot_as.new.bank (is_ok c.boot_as.result) (boot_writes c.args.kind l))
           (c.read_front.ensures.reads.kept told) (c.boot_as.ensures.boots.bank_calls (told)));
       not_old = search rules;

@@ -1,28 +1,18 @@
-use Rattle.std.proofs.Common.{rules, ◌≡◌, ◌≤◌, List, [], length, Option, sym, subst, ◌∙◌, ap, arith}
+use Rattle.std.proofs.Common.{rules, ◌≡◌, ◌≤◌, [], length, ◌∙◌, ap, arith}
 use Rattle.std.proofs.lemmas.Result.{IfOk-weaker}
 use Rattle.tbl_kinds.specs.Places.{bank_size}
-use Rattle.tbl_kinds.specs.declared.block.Block.{Block}
 use Rattle.tbl_outside.proofs.Moments.{leaves_among}
-use Rattle.cds_layout.proofs.Directories.{length-directory_of}
-use Rattle.cds_layout.proofs.DirectoryLaws.{directory-all_right}
-use Rattle.cds_layout.specs.Lines.{AreRight}
 use Rattle.cds_store.specs.Boots.{found_open}
 use Rattle.cds_store.proofs.Settled.{on_ok_two, if_ok_two, processor_sound, processor_stands, processor_leaves, power_on_sound, power_on_stands, power_on_leaves, found_shown}
 use Rattle.cds_store.proofs.boot.boot_as.Goals as goal
 
-pub boot_processor-requires-clause-directory : goal.boot_processor-requires-clause-directory
-boot_processor-requires-clause-directory g c = ap (λ (l : List (Option Block)). length l) c.requires.directory ∙ length-directory_of c.args.front.now
-
-pub boot_processor-requires-clause-right : goal.boot_processor-requires-clause-right
-boot_processor-requires-clause-right g c = subst AreRight (sym c.requires.directory) (directory-all_right c.args.front.now)
-
 pub returns-in-Processor-clause-sound : goal.returns-in-Processor-clause-sound
 returns-in-Processor-clause-sound g c =
     let b = g.B.Bank in
-    let room : bank_size ≤ b.size c.boot_processor.new.bank = omega (arith, c.requires.front.room, c.boot_processor.ensures.keeps.steady.size_kept) in
+    let room : bank_size ≤ b.size c.boot_processor.new.bank = omega (arith, c.requires.front.room, c.boot_processor.ensures.step.keeps.steady.size_kept) in
     on_ok_two c.boot_processor.result
-    (λ slots tidy. processor_sound b.tells b.size b.now c.args.slots.now.items c.args.bank.now c.boot_processor.new.slots.items c.boot_processor.new.bank c.args.directory.now (λ told. (c.requires.front.is told).told) slots tidy c.args.front.now c.requires.directory room)
-    c.boot_processor.ensures.slots c.boot_processor.ensures.changes.done
+    (λ slots tidy. processor_sound b.tells b.size b.now c.args.slots.now.items c.args.bank.now c.boot_processor.new.slots.items c.boot_processor.new.bank c.args.directory.now (λ told. (c.requires.front.is told).told) slots tidy c.requires.front.together room)
+    c.boot_processor.ensures.slots c.boot_processor.ensures.step.changes.done
 
 pub returns-in-Processor-clause-boots : goal.returns-in-Processor-clause-boots
 returns-in-Processor-clause-boots g c =
@@ -32,7 +22,7 @@ returns-in-Processor-clause-boots g c =
           rw c.in-Processor.is
           (if_ok_two (λ found. found ≡ found_open c.args.slots.now.items c.args.directory.now) _ c.boot_processor.result
           (λ found is slots tidy. processor_stands b.tells b.size b.now c.args.slots.now.items c.args.bank.now c.boot_processor.new.slots.items c.boot_processor.new.bank c.args.directory.now (λ told. (c.requires.front.is told).told) slots tidy found is)
-          c.boot_processor.ensures.found c.boot_processor.ensures.slots c.boot_processor.ensures.changes.done);
+          c.boot_processor.ensures.found c.boot_processor.ensures.slots c.boot_processor.ensures.step.changes.done);
       found =
           rw c.in-Processor.is
           (IfOk-weaker c.boot_processor.result (λ found. found ≡ found_open c.args.slots.now.items c.args.directory.now) _
@@ -40,10 +30,10 @@ returns-in-Processor-clause-boots g c =
           c.boot_processor.ensures.found);
       left = λ told blocks begins.
           rw c.in-Processor.is
-          (processor_leaves b.tells b.size b.now c.args.slots.now.items c.args.bank.now told blocks begins (b.now c.boot_processor.new.bank) (c.boot_processor.ensures.changes.left told));
+          (processor_leaves b.tells b.size b.now c.args.slots.now.items c.args.bank.now told blocks begins (b.now c.boot_processor.new.bank) (c.boot_processor.ensures.step.changes.left told));
       moments = λ told blocks begins.
           rw c.in-Processor.is
-          (leaves_among (c.boot_processor.ensures.changes.moments told) (processor_leaves b.tells b.size b.now c.args.slots.now.items c.args.bank.now (g.met.B.Bank.tells_both told) blocks begins));
+          (leaves_among (c.boot_processor.ensures.step.changes.moments told) (processor_leaves b.tells b.size b.now c.args.slots.now.items c.args.bank.now (g.met.B.Bank.tells_both told) blocks begins));
       steady = search rules;
       counted = search rules;
       bank_calls = search rules;
@@ -53,10 +43,10 @@ returns-in-Processor-clause-boots g c =
 pub returns-in-PowerOn-clause-sound : goal.returns-in-PowerOn-clause-sound
 returns-in-PowerOn-clause-sound g c =
     let b = g.B.Bank in
-    let room : bank_size ≤ b.size c.boot_power_on.new.bank = omega (arith, c.requires.front.room, c.boot_power_on.ensures.keeps.steady.size_kept) in
+    let room : bank_size ≤ b.size c.boot_power_on.new.bank = omega (arith, c.requires.front.room, c.boot_power_on.ensures.step.keeps.steady.size_kept) in
     on_ok_two c.boot_power_on.result
     (λ slots cleared. power_on_sound b.tells b.size b.now c.args.slots.now.items c.args.bank.now c.boot_power_on.new.slots.items c.boot_power_on.new.bank (length c.args.slots.now.items) c.requires.slots slots cleared room)
-    c.boot_power_on.ensures.slots c.boot_power_on.ensures.changes.done
+    c.boot_power_on.ensures.slots c.boot_power_on.ensures.step.changes.done
 
 pub returns-in-PowerOn-clause-boots : goal.returns-in-PowerOn-clause-boots
 returns-in-PowerOn-clause-boots g c =
@@ -66,14 +56,14 @@ returns-in-PowerOn-clause-boots g c =
           rw c.in-PowerOn.is
           (if_ok_two (λ found. found ≡ []) _ c.boot_power_on.result
           (λ found is slots cleared told blocks begins. power_on_stands b.tells b.size b.now c.args.slots.now.items c.args.bank.now c.boot_power_on.new.slots.items c.boot_power_on.new.bank (length c.args.slots.now.items) c.requires.slots slots cleared found told blocks)
-          c.boot_power_on.ensures.found c.boot_power_on.ensures.slots c.boot_power_on.ensures.changes.done);
+          c.boot_power_on.ensures.found c.boot_power_on.ensures.slots c.boot_power_on.ensures.step.changes.done);
       found = search rules;
       left = λ told blocks begins.
           rw c.in-PowerOn.is
-          (power_on_leaves b.tells b.size b.now c.args.slots.now.items c.args.bank.now told blocks begins (b.now c.boot_power_on.new.bank) (c.boot_power_on.ensures.changes.left told));
+          (power_on_leaves b.tells b.size b.now c.args.slots.now.items c.args.bank.now told blocks begins (b.now c.boot_power_on.new.bank) (c.boot_power_on.ensures.step.changes.left told));
       moments = λ told blocks begins.
           rw c.in-PowerOn.is
-          (leaves_among (c.boot_power_on.ensures.changes.moments told) (power_on_leaves b.tells b.size b.now c.args.slots.now.items c.args.bank.now (g.met.B.Bank.tells_both told) blocks begins));
+          (leaves_among (c.boot_power_on.ensures.step.changes.moments told) (power_on_leaves b.tells b.size b.now c.args.slots.now.items c.args.bank.now (g.met.B.Bank.tells_both told) blocks begins));
       steady = search rules;
       counted = search rules;
       bank_calls = search rules;

@@ -3,12 +3,12 @@ use Rattle.std.proofs.lemmas.Result.{on_ok_weaker}
 use Rattle.tbl_kinds.specs.Places.{bank_size}
 use Rattle.tbl_kinds.specs.Numbers.{patched}
 use Rattle.tbl_outside.specs.Bank.{Torn}
-use Rattle.tbl_outside.specs.BankCalls.{Asks, read, write}
+use Rattle.tbl_outside.specs.BankCalls.{Asks, write}
 use Rattle.tbl_outside.proofs.BankCalls.{asks_then, asks_no_more}
 use Rattle.tbl_outside.proofs.Moments.{goes_on, leaves_among}
 use Rattle.cds_layout.specs.Entries.{turns_place}
-use Rattle.cds_layout.specs.Images.{head_len, is_whole}
-use Rattle.cds_layout.specs.Order.{carried_turns, carry_at}
+use Rattle.cds_layout.specs.Images.{is_whole}
+use Rattle.cds_layout.specs.Order.{carried_turns, first_calls, carry_at}
 use Rattle.cds_layout.specs.declared.turns.Place.TheVariants.{First}
 use Rattle.cds_store.specs.Boots.{SameStore}
 use Rattle.cds_store.proofs.CarriedOver.{carry_torn, carry_step}
@@ -23,14 +23,14 @@ returns-in_err-whole-clause-changes g c old there carried =
     let b = g.B.Bank in
     let block = c.args.block.now in
     let now = b.now c.args.bank.now in
-    let reads = c.first_shows.ensures.reads in
+    let reads = c.read_first.ensures.reads in
     record {
       done = search rules;
       left = λ told. subst (SameStore old) (sym (reads.kept told)) (carried told).same;
       moments = λ m. leaves_among (reads.moments m) (λ image same. subst (SameStore old) (sym same) (carried (g.met.B.Bank.tells_both m)).same);
       bank_calls = λ told.
-          let broke : Asks b.tells_calls b.calls c.args.bank.now c.first_shows.new.bank false (carry_at now c.args.slot (Some block)) =
-          asks_no_more b.tells_calls b.calls c.args.bank.now c.first_shows.new.bank (read block.offset (head_len + block.size) ∷ []) (write (turns_place c.args.slot) (carried_turns (is_whole now block First)) ∷ []) c.in_err-whole.ensures.reads.bank_calls in
+          let broke : Asks b.tells_calls b.calls c.args.bank.now c.read_first.new.bank false (carry_at now c.args.slot (Some block)) =
+          asks_no_more b.tells_calls b.calls c.args.bank.now c.read_first.new.bank (first_calls block) (write (turns_place c.args.slot) (carried_turns (is_whole now block First)) ∷ []) c.in_err-whole.ensures.bank_calls in
           search rules;
     }
 
@@ -41,7 +41,7 @@ returns-clause-changes g c old there carried =
     let block = c.args.block.now in
     let now = b.now c.args.bank.now in
     let new = b.now c.write.new.bank in
-    let reads = c.first_shows.ensures.reads in
+    let reads = c.read_first.ensures.reads in
     let writes = c.write.ensures.writes in
     let size : length c.carried_turns.result ≡ 2 = search rules in
     record {
@@ -60,9 +60,9 @@ returns-clause-changes g c old there carried =
           (writes.moments m)
           (λ image torn. carry_torn old now image slot c.requires.within (carried told) (moved c.turns_place.ensures size (reads.kept told) torn));
       bank_calls = λ told.
-          asks_then b.tells_calls b.calls c.args.bank.now c.first_shows.new.bank c.write.new.bank (is_ok c.write.result) (read block.offset (head_len + block.size) ∷ []) (write (turns_place slot) (carried_turns (is_whole now block First)) ∷ [])
-          c.in_ok-whole.ensures.reads.bank_calls
-          (subst (Asks b.tells_calls b.calls c.first_shows.new.bank c.write.new.bank (is_ok c.write.result))
+          asks_then b.tells_calls b.calls c.args.bank.now c.read_first.new.bank c.write.new.bank (is_ok c.write.result) (first_calls block) (write (turns_place slot) (carried_turns (is_whole now block First)) ∷ [])
+          c.in_ok-whole.ensures.bank_calls
+          (subst (Asks b.tells_calls b.calls c.read_first.new.bank c.write.new.bank (is_ok c.write.result))
           (λ i. write (c.turns_place.ensures i) ((c.carried_turns.ensures ∙ ap carried_turns (c.in_ok-whole.ensures.whole told)) i) ∷ [])
           writes.bank_calls);
     }

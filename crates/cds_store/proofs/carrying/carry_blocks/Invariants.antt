@@ -1,4 +1,4 @@
-use Rattle.std.proofs.Common.{◌≡◌, ℕ, List, length, true}
+use Rattle.std.proofs.Common.{◌≡◌, ℕ, List, true}
 use Rattle.tbl_outside.specs.Bank.{LeavesOnly}
 use Rattle.tbl_outside.specs.BankCalls.{Asks}
 use Rattle.tbl_outside.specs.Counts.{Still}
@@ -13,7 +13,6 @@ invariant-loop-slot g l =
     let b = g.B.Bank in
     record {
       carried : (old : List ℕ) → (b.tells → l.directory ≡ directory_of old) → (b.tells → Carried old (b.now l.fn.bank) 0) → b.tells → Carried old (b.now l.bank) l.slot;
-      buffer : length l.room ≡ 16392;
       steady : Steady b.size b.faults b.stops l.fn.bank l.bank;
       still : Still b.faults b.stops l.fn.bank l.bank;
       bank_calls : (old : List ℕ) → (b.tells → l.directory ≡ directory_of old) → (b.tells → Carried old (b.now l.fn.bank) 0) → b.tells → Asks b.tells_calls b.calls l.fn.bank l.bank true (carried_to l.slot old (directory_of old));

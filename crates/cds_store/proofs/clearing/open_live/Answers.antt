@@ -5,18 +5,21 @@ use Rattle.cds_store.proofs.Emptying.{cleared, shut_stays}
 use Rattle.cds_store.proofs.Strays.{shut_is_emptied}
 use Rattle.cds_store.proofs.clearing.open_live.Goals as goal
 
-pub returns-clause-changes : goal.returns-clause-changes
-returns-clause-changes g c =
+pub returns : goal.returns
+returns g c =
     let b = g.B.Bank in
     record {
-      done =
-          on_ok_weaker c.write.result
-          (λ done told.
-          cleared (b.now c.args.bank.now) (b.now c.write.new.bank) (omega (arith, c.requires.room, g.met.B.Bank.whole c.args.bank.now told)) (done told) (c.write.ensures.writes.torn told) (c.requires.mark told) (c.requires.shut told))
-          c.write.ensures.writes.done;
-      left = λ told. shut_is_emptied (b.now c.write.new.bank) (shut_stays (b.now c.args.bank.now) (b.now c.write.new.bank) (c.write.ensures.writes.torn told) (c.requires.shut told));
-      moments = λ told.
-          leaves_among (c.write.ensures.writes.moments told)
-          (λ image torn. shut_is_emptied image (shut_stays (b.now c.args.bank.now) image torn (c.requires.shut (g.met.B.Bank.tells_both told))));
-      bank_calls = search rules;
+      keeps = search rules;
+      changes = record {
+        done =
+            on_ok_weaker c.write.result
+            (λ done told.
+            cleared (b.now c.args.bank.now) (b.now c.write.new.bank) (omega (arith, c.requires.room, g.met.B.Bank.whole c.args.bank.now told)) (done told) (c.write.ensures.writes.torn told) (c.requires.mark told) (c.requires.shut told))
+            c.write.ensures.writes.done;
+        left = λ told. shut_is_emptied (b.now c.write.new.bank) (shut_stays (b.now c.args.bank.now) (b.now c.write.new.bank) (c.write.ensures.writes.torn told) (c.requires.shut told));
+        moments = λ told.
+            leaves_among (c.write.ensures.writes.moments told)
+            (λ image torn. shut_is_emptied image (shut_stays (b.now c.args.bank.now) image torn (c.requires.shut (g.met.B.Bank.tells_both told))));
+        bank_calls = search rules;
+      };
     }

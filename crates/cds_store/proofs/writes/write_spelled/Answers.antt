@@ -25,19 +25,19 @@ returns-in_err-turns g c =
     let b = g.B.Bank in
     let flags : IfErr c.from_residual.result (HasFlags false false) = search rules in
     let old = b.now c.args.bank.now in
-    let broke : Asks b.tells_calls b.calls c.args.bank.now c.turns_of.new.bank false (copy_calls old c.args.slot c.args.block.now c.args.place_bytes.now) =
-    asks_no_more b.tells_calls b.calls c.args.bank.now c.turns_of.new.bank (turn_calls c.args.slot)
+    let broke : Asks b.tells_calls b.calls c.args.bank.now c.read_turns.new.bank false (copy_calls old c.args.slot c.args.block.now c.args.place_bytes.now) =
+    asks_no_more b.tells_calls b.calls c.args.bank.now c.read_turns.new.bank (turn_calls c.args.slot)
     (write (place_at c.args.block.now (hidden_in old c.args.slot)) c.args.place_bytes.now ∷ write (turn_place c.args.slot (hidden_in old c.args.slot)) (byte_of (opened_in old c.args.slot) ∷ []) ∷ [])
-    c.in_err-turns.ensures.reads.bank_calls in
+    c.in_err-turns.ensures.bank_calls in
     record {
       copies = record {
         done = search rules;
         err =
             IfErr-weaker c.from_residual.result (HasFlags false false) _
             (λ fault has told.
-            subst (λ (gate : Bool). TearsBy gate c.args.slot c.args.block.now c.args.place_bytes.now (b.now c.args.bank.now) (b.now c.turns_of.new.bank)) (sym has.gate_is) (inl (c.turns_of.ensures.reads.kept told)))
+            subst (λ (gate : Bool). TearsBy gate c.args.slot c.args.block.now c.args.place_bytes.now (b.now c.args.bank.now) (b.now c.read_turns.new.bank)) (sym has.gate_is) (inl (c.read_turns.ensures.reads.kept told)))
             flags;
-        moments = λ told. leaves_among (c.turns_of.ensures.reads.moments told) (λ image same. inl (inl same));
+        moments = λ told. leaves_among (c.read_turns.ensures.reads.moments told) (λ image same. inl (inl same));
         steady = search rules;
         counted = search rules;
         bank_calls = λ told. search rules;
@@ -52,26 +52,26 @@ returns-in-Err g c =
     let block = c.args.block.now in
     let old = b.now c.args.bank.now in
     let new = b.now c.write_place.new.bank in
-    let hidden = λ (told : b.tells). c.hidden-place.ensures ∙ (λ i. other (shown_by (c.in_ok-turns.ensures.first told i) (c.in_ok-turns.ensures.second told i))) in
+    let hidden = λ (told : b.tells). c.hidden-place.ensures ∙ (λ i. other (shown_by ((c.in_ok-turns.ensures.turns told).first i) ((c.in_ok-turns.ensures.turns told).second i))) in
     record {
       copies = record {
         done = search rules;
         err = λ told.
-            subst (λ (gate : Bool). TearsBy gate slot block c.args.place_bytes.now old new) (sym c.in-Err.ensures.writes.flags.gate_is) (inr (moved block (hidden told) c.requires.size (c.turns_of.ensures.reads.kept told) (c.write_place.ensures.writes.torn told)));
+            subst (λ (gate : Bool). TearsBy gate slot block c.args.place_bytes.now old new) (sym c.in-Err.ensures.writes.flags.gate_is) (inr (moved block (hidden told) c.requires.size (c.read_turns.ensures.reads.kept told) (c.write_place.ensures.writes.torn told)));
         moments = λ told.
             let tells = g.met.B.Bank.tells_both told in
-            goes_on (leaves_among (c.turns_of.ensures.reads.moments told) (λ image same. inl (inl same)))
+            goes_on (leaves_among (c.read_turns.ensures.reads.moments told) (λ image same. inl (inl same)))
             (c.write_place.ensures.writes.moments told)
-            (λ image torn. inl (inr (moved block (hidden tells) c.requires.size (c.turns_of.ensures.reads.kept tells) torn)));
+            (λ image torn. inl (inr (moved block (hidden tells) c.requires.size (c.read_turns.ensures.reads.kept tells) torn)));
         steady = search rules;
         counted = search rules;
         bank_calls = λ told.
-            asks_then b.tells_calls b.calls c.args.bank.now c.turns_of.new.bank c.write_place.new.bank false (turn_calls slot)
+            asks_then b.tells_calls b.calls c.args.bank.now c.read_turns.new.bank c.write_place.new.bank false (turn_calls slot)
             (write (place_at block (hidden_in old slot)) c.args.place_bytes.now ∷ write (turn_place slot (hidden_in old slot)) (byte_of (opened_in old slot) ∷ []) ∷ [])
-            c.in_ok-turns.ensures.reads.bank_calls
-            (asks_no_more b.tells_calls b.calls c.turns_of.new.bank c.write_place.new.bank (write (place_at block (hidden_in old slot)) c.args.place_bytes.now ∷ [])
+            c.in_ok-turns.ensures.bank_calls
+            (asks_no_more b.tells_calls b.calls c.read_turns.new.bank c.write_place.new.bank (write (place_at block (hidden_in old slot)) c.args.place_bytes.now ∷ [])
             (write (turn_place slot (hidden_in old slot)) (byte_of (opened_in old slot) ∷ []) ∷ [])
-            (subst (λ (p : Place). Asks b.tells_calls b.calls c.turns_of.new.bank c.write_place.new.bank false (write (place_at block p) c.args.place_bytes.now ∷ [])) (hidden told) c.in-Err.ensures.writes.bank_calls));
+            (subst (λ (p : Place). Asks b.tells_calls b.calls c.read_turns.new.bank c.write_place.new.bank false (write (place_at block p) c.args.place_bytes.now ∷ [])) (hidden told) c.in-Err.ensures.writes.bank_calls));
         flags = search rules;
       };
     }
@@ -83,9 +83,9 @@ returns-in-Ok g c =
     let block = c.args.block.now in
     let old = b.now c.args.bank.now in
     let new = b.now c.write_turn.new.bank in
-    let hidden = λ (told : b.tells). c.hidden-place.ensures ∙ (λ i. other (shown_by (c.in_ok-turns.ensures.first told i) (c.in_ok-turns.ensures.second told i))) in
-    let opened = λ (told : b.tells). c.opened.ensures ∙ (λ i. opened_by (c.in_ok-turns.ensures.first told i) (c.in_ok-turns.ensures.second told i)) in
-    let mid = λ (told : b.tells). c.in-Ok.ensures.writes.done told ∙ (λ i. patched (c.turns_of.ensures.reads.kept told i) (place_at block (hidden told i)) c.args.place_bytes.now) in
+    let hidden = λ (told : b.tells). c.hidden-place.ensures ∙ (λ i. other (shown_by ((c.in_ok-turns.ensures.turns told).first i) ((c.in_ok-turns.ensures.turns told).second i))) in
+    let opened = λ (told : b.tells). c.opened.ensures ∙ (λ i. opened_by ((c.in_ok-turns.ensures.turns told).first i) ((c.in_ok-turns.ensures.turns told).second i)) in
+    let mid = λ (told : b.tells). c.in-Ok.ensures.writes.done told ∙ (λ i. patched (c.read_turns.ensures.reads.kept told i) (place_at block (hidden told i)) c.args.place_bytes.now) in
     record {
       copies = record {
         done =
@@ -104,21 +104,21 @@ returns-in-Ok g c =
         moments = λ told.
             let tells = g.met.B.Bank.tells_both told in
             goes_on
-            (goes_on (leaves_among (c.turns_of.ensures.reads.moments told) (λ image same. inl (inl same)))
+            (goes_on (leaves_among (c.read_turns.ensures.reads.moments told) (λ image same. inl (inl same)))
             (c.write_place.ensures.writes.moments told)
-            (λ image torn. inl (inr (moved block (hidden tells) c.requires.size (c.turns_of.ensures.reads.kept tells) torn))))
+            (λ image torn. inl (inr (moved block (hidden tells) c.requires.size (c.read_turns.ensures.reads.kept tells) torn))))
             (c.write_turn.ensures.writes.moments told)
             (λ image torn. inr (subst (λ (p : Place). Torn (turn_place slot p) 1 (with_place slot block c.args.place_bytes.now old) image) (hidden tells)
             (subst (λ (bytes : List ℕ). Torn (turn_place slot c.hidden-place.result) 1 bytes image) (mid tells) torn)));
         steady = search rules;
         counted = search rules;
         bank_calls = λ told.
-            asks_then b.tells_calls b.calls c.args.bank.now c.turns_of.new.bank c.write_turn.new.bank (is_ok c.write_turn.result) (turn_calls slot)
+            asks_then b.tells_calls b.calls c.args.bank.now c.read_turns.new.bank c.write_turn.new.bank (is_ok c.write_turn.result) (turn_calls slot)
             (write (place_at block (hidden_in old slot)) c.args.place_bytes.now ∷ write (turn_place slot (hidden_in old slot)) (byte_of (opened_in old slot) ∷ []) ∷ [])
-            c.in_ok-turns.ensures.reads.bank_calls
-            (asks_then b.tells_calls b.calls c.turns_of.new.bank c.write_place.new.bank c.write_turn.new.bank (is_ok c.write_turn.result) (write (place_at block (hidden_in old slot)) c.args.place_bytes.now ∷ [])
+            c.in_ok-turns.ensures.bank_calls
+            (asks_then b.tells_calls b.calls c.read_turns.new.bank c.write_place.new.bank c.write_turn.new.bank (is_ok c.write_turn.result) (write (place_at block (hidden_in old slot)) c.args.place_bytes.now ∷ [])
             (write (turn_place slot (hidden_in old slot)) (byte_of (opened_in old slot) ∷ []) ∷ [])
-            (subst (λ (p : Place). Asks b.tells_calls b.calls c.turns_of.new.bank c.write_place.new.bank true (write (place_at block p) c.args.place_bytes.now ∷ [])) (hidden told) c.in-Ok.ensures.writes.bank_calls)
+            (subst (λ (p : Place). Asks b.tells_calls b.calls c.read_turns.new.bank c.write_place.new.bank true (write (place_at block p) c.args.place_bytes.now ∷ [])) (hidden told) c.in-Ok.ensures.writes.bank_calls)
             (subst (λ (p : Place). Asks b.tells_calls b.calls c.write_place.new.bank c.write_turn.new.bank (is_ok c.write_turn.result) (write (turn_place slot p) (byte_of (opened_in old slot) ∷ []) ∷ [])) (hidden told)
             (subst (λ (t : Turn). Asks b.tells_calls b.calls c.write_place.new.bank c.write_turn.new.bank (is_ok c.write_turn.result) (write (turn_place slot c.hidden-place.result) (byte_of t ∷ []) ∷ [])) (opened told) c.write_turn.ensures.writes.bank_calls)));
         flags = search rules;
