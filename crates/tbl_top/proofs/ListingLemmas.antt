@@ -1,7 +1,5 @@
 -- A listing before anything of it was written.
-use Rattle.std.proofs.Common.{◌≡◌, ◌≢◌, ℕ, List, Result, Ok, Err, refl, sym, ◌∙◌, arith, ◌⊎◌, inl, inr}
-use Rattle.cds_layout.specs.declared.listing.TextFault.{TextFault}
-use Rattle.cds_layout.specs.declared.listing.TextFault.TheVariants.{Fault, Memory}
+use Rattle.std.proofs.Common.{◌≡◌, ◌≢◌, ℕ, List, refl, arith, ◌⊎◌, inl, inr}
 use Rattle.cds_layout.specs.Images.{store_of}
 use Rattle.cds_layout.specs.Texts.{text_of}
 use Rattle.tbl_outside.specs.Bank.{LeavesOnly}
@@ -55,13 +53,6 @@ module _ {B : Type 0} (g : Ghosts B) (bank bank_then : B) (before : Taken) (kept
     other : (status ≡ 0) ⊎ (status ≡ 4) → status ≡ 7 → ⊥
     other (inl zero) seven = omega (arith, zero, seven)
     other (inr four) seven = omega (arith, four, seven)
-
--- an answer that memory ran out, or that there is a text, isn't one that the bank failed
-pub memory_other : {T : Type 0} (answer : Result T TextFault) → answer ≡ Err Memory → answer ≢ Err Fault
-memory_other answer memory fault = let clash = sym memory ∙ fault in absurd cc
-
-pub text_other : {T : Type 0} (answer : Result T TextFault) (text : T) → answer ≡ Ok text → answer ≢ Err Fault
-text_other answer text ok fault = let clash = sym ok ∙ fault in absurd cc
 
 -- it is written, unless something failed
 pub lists_through : {B : Type 0} (g : Ghosts B) (bank bank_then : B) (status : ℕ) (before after : Taken) → ListsStore g bank bank_then status before after → ListsThrough g bank bank_then status before.1 after.1
