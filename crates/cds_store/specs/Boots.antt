@@ -1,5 +1,5 @@
 -- What a boot reads and writes.
-use Rattle.std.specs.Prelude.{◌≡◌, ◌⊎◌, ℕ, ◌<◌, ◌≤◌, ◌==◌, ◌&&◌, List, length, [], ◌∷◌, replicate, Bool, true, false, not, Option, Some, None, is_some, slice_index, slice_index_or}
+use Rattle.std.specs.Prelude.{◌≡◌, ◌⊎◌, ℕ, ◌<◌, ◌≤◌, ◌==◌, ◌&&◌, List, length, [], ◌∷◌, replicate, Bool, true, false, not, Option, Some, None, is_some, slice_index, slice_index_or, Result, IfOk, OnOk, OnErr}
 use Rattle.std.specs.List.{filter, range_with_len}
 use Rattle.std.specs.Option.{option_map}
 use Rattle.tbl_kinds.specs.Places.{bank_size}
@@ -12,11 +12,25 @@ use Rattle.tbl_kinds.specs.declared.request.ResetKind.{ResetKind}
 use Rattle.tbl_kinds.specs.declared.request.ResetKind.TheVariants.{Processor, PowerOn}
 use Rattle.cds_layout.specs.Entries.{slot_count, gate_open, gate_at}
 use Rattle.cds_layout.specs.Directory.{is_live, is_first_version, directory_len, directory_of}
+use Rattle.cds_layout.specs.Lines.{AreRight}
 use Rattle.cds_layout.specs.Images.{held_by, held_in, turned_in, store_of}
 use Rattle.cds_layout.specs.declared.turns.Place.TheVariants.{First}
 use Rattle.cds_store.specs.Sound.{slot_at, EntryIs}
 use Rattle.cds_store.specs.StoreBlocks.{StoreParts, StandsFor}
 use Rattle.cds_store.specs.declared.slot.Slot.{Slot}
+use Rattle.cds_store.specs.declared.fault.BankFault.{BankFault}
+
+-- a bank that has room for a store begins with these bytes
+pub record BeginsSo {B : Type 0} (g : Ghosts B) (bank : B) (front : List ℕ) : Type 0 where
+  pub len : length front ≡ directory_len
+  pub room : bank_size ≤ g.size bank
+  pub read : g.tells → front ≡ piece 0 directory_len (g.now bank)
+
+-- a boot found these slots open, and left these slots; if it broke off, they are as before
+pub record SettlesSlots (old new : List (Option Slot)) (numbers : List ℕ) (left : List (Option Slot)) (result : Result (List ℕ) BankFault) : Type 0 where
+  pub found : IfOk result (λ found. found ≡ numbers)
+  pub slots : OnOk result (new ≡ left)
+  pub err : OnErr result (new ≡ old)
 
 -- the same blocks are open, with the same images
 pub record SameStore (old image : List ℕ) : Type 0 where
@@ -38,6 +52,12 @@ IsEmptied image = directory_of image ≡ replicate slot_count None
 -- the slot of a block that is open
 abbrev pub opened_slot : Block → Slot
 opened_slot b = record { block = b; doubtful = false }
+
+-- the blocks of the directory can be there in this bank, and there is room to read any place of one
+pub record CanCarry {B : Type 0} (g : Ghosts B) (bank : B) (directory : List (Option Block)) (room : List ℕ) : Type 0 where
+  pub right : AreRight directory
+  pub buffer : length room ≡ 16392
+  pub bank_room : bank_size ≤ g.size bank
 
 -- in a store of the first version, the turn bytes of the blocks of the first slots say what their first places hold. Until another version
 -- is written there, no turn bytes are looked at

@@ -1,5 +1,5 @@
 -- What each call of the store promises, over what the store keeps before it and after it.
-use Rattle.std.specs.Prelude.{◌≡◌, ℕ, List, [], slice_set, not, Bool, true, false, Some, None, is_ok, IsSome, IfOk, OnOk, IfErr, Result}
+use Rattle.std.specs.Prelude.{◌≡◌, ℕ, ◌<◌, List, [], slice_set, not, Bool, true, false, Option, Some, None, is_ok, IsSome, IfSome, IfOk, OnOk, IfErr, Result}
 use Rattle.std.specs.Option.{ForSome}
 use Rattle.tbl_kinds.specs.Blocks.{Store as Blocks}
 use Rattle.tbl_kinds.specs.Free.{least_free}
@@ -22,6 +22,12 @@ use Rattle.cds_store.specs.Sound.{slot_at}
 use Rattle.cds_store.specs.StoreBlocks.{StoreParts, StandsFor, after_fault, held_at, ComesBack}
 use Rattle.cds_store.specs.declared.fault.BankFault.{BankFault}
 use Rattle.cds_store.specs.declared.fault.ReserveFault.{ReserveFault}
+
+-- which slot was found, by the slots and by the blocks that they stand for
+pub record Finds {B : Type 0} (g : Ghosts B) (kept : StoreParts B) (in_slots : Option ℕ) (in_blocks : Blocks → Option ℕ) (result : Option ℕ) : Type 0 where
+  pub slot : result ≡ in_slots
+  pub block : (blocks : Blocks) → StandsFor g.tells g.now kept blocks → result ≡ in_blocks blocks
+  pub within : IfSome result (λ slot. slot < 128)
 
 -- a boot, which asks these calls of the bank once the directory is there
 pub record Boots {B : Type 0} (g : Ghosts B) (old new : StoreParts B) (kind : ResetKind) (calls : List BankCall) (result : Result (List ℕ) BankFault) : Type 0 where

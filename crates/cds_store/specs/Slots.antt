@@ -1,5 +1,5 @@
 -- What is asked of the slots.
-use Rattle.std.specs.Prelude.{ℕ, List, Bool, false, not, ◌&&◌, Option, Some, None, position, slice_set}
+use Rattle.std.specs.Prelude.{ℕ, ◌<◌, ◌≤◌, List, length, Bool, false, not, ◌&&◌, Option, Some, None, IfSome, position, slice_set}
 use Rattle.std.specs.List.{filter_map}
 use Rattle.std.specs.Option.{option_map}
 use Rattle.tbl_kinds.specs.Places.{place}
@@ -34,6 +34,11 @@ doubtful_slot kind name slots = position (is_doubtful_slot kind name) slots
 abbrev pub without_slot : Option ℕ → List (Option Slot) → List (Option Slot)
 without_slot None slots = slots
 without_slot (Some n) slots = slice_set slots n None
+
+-- there are at most 128 slots, of which the named one is one
+pub record CanFree (slots : List (Option Slot)) (without : Option ℕ) : Type 0 where
+  pub len : length slots ≤ 128
+  pub within : IfSome without (λ n. n < length slots)
 
 -- the blocks whose room is taken
 abbrev pub block_of : Slot → Block

@@ -46,6 +46,12 @@ pub record IsNew (n : ℕ) (slots : List (Option Slot)) (block : Block) : Type 0
   pub right : is_right block ≡ true
   pub agrees : (k : ℕ) (s : Slot) → slot_at slots k ≡ Some s → agree block s.block ≡ true
 
+-- the bank has room for a store, in which this block can be in this slot
+pub record CanHold {B : Type 0} (g : Ghosts B) (bank : B) (slot : ℕ) (block : Block) : Type 0 where
+  pub within : slot < slot_count
+  pub right : is_right block ≡ true
+  pub room : bank_size ≤ g.size bank
+
 -- an open block whose image has this size
 abbrev pub IsOpenOf : ℕ → Option Slot → Type 0
 IsOpenOf size None = ⊥

@@ -11,7 +11,7 @@ ghost use Rattle.tbl_outside.specs.Bank.{LeavesOnly};
 ghost use Rattle.tbl_outside.specs.BankCalls.{Asks, read};
 ghost use Rattle.cds_layout.specs.Directory.{directory_len, directory_of, is_live};
 ghost use Rattle.cds_layout.specs.Entries.{slot_count};
-ghost use Rattle.cds_store.specs.Boots.{SameStore, IsTidy, IsCleared, Clears, AreZeros, BeginsAt, opened_slot, found_open, found_by};
+ghost use Rattle.cds_store.specs.Boots.{BeginsSo, SettlesSlots, SameStore, IsTidy, IsCleared, Clears, AreZeros, BeginsAt, opened_slot, found_open, found_by};
 ghost use Rattle.cds_layout.specs.Images.{store_of};
 ghost use Rattle.cds_layout.specs.Order.{clear_calls, strays_to, carry_calls, boot_writes, boot_calls};
 ghost use Rattle.cds_layout.specs.Fronts.{WasRead};
@@ -59,9 +59,7 @@ fn first_of(bytes: &[u8]) -> u8
 
 /// Clears the whole directory. The bytes that were read are used up.
 pub(crate) fn clear_all<B: Bank>(bank: &mut B, front: &mut [u8]) -> Result<(), BankFault>
-    requires len { length front.old ≡ directory_len }
-    requires room { bank_size ≤ B.size bank.old }
-    requires read { B.tells → front.old ≡ piece 0 directory_len (B.now bank.old) }
+    requires { BeginsSo B.Bank bank.old front.old }
     ensures { ClearsAll B.Bank bank.old bank.new (clear_calls (B.now bank.old)) result }
 {
     let first = first_of(front);
@@ -116,9 +114,7 @@ pub(crate) fn boot_processor<B: Bank>(
     requires slots { length slots.old.items ≡ slot_count }
     requires buffer { length room.old ≡ 16392 }
     requires front { WasRead B.Bank bank.old front.old directory.now }
-    ensures found { IfOk result (λ found. found ≡ found_open slots.old.items directory.now) }
-    ensures slots { OnOk result (slots.new.items ≡ map (option_map opened_slot) directory.now) }
-    ensures err { OnErr result (slots.new.items ≡ slots.old.items) }
+    ensures slots { SettlesSlots slots.old.items slots.new.items (found_open slots.old.items directory.now) (map (option_map opened_slot) directory.now) result }
     ensures step { Tidies B.Bank bank.old bank.new
         (boot_writes Processor (B.now bank.old)) result }
 {
@@ -135,12 +131,8 @@ pub(crate) fn boot_power_on<B: Bank>(
     front: &mut [u8],
 ) -> Result<Slots, BankFault>
     requires slots { length slots.old.items ≡ slot_count }
-    requires len { length front.old ≡ directory_len }
-    requires room { bank_size ≤ B.size bank.old }
-    requires read { B.tells → front.old ≡ piece 0 directory_len (B.now bank.old) }
-    ensures found { IfOk result (λ found. found ≡ []) }
-    ensures slots { OnOk result (slots.new.items ≡ replicate (length slots.old.items) None) }
-    ensures err { OnErr result (slots.new.items ≡ slots.old.items) }
+    requires front { BeginsSo B.Bank bank.old front.old }
+    ensures slots { SettlesSlots slots.old.items slots.new.items [] (replicate (length slots.old.items) None) result }
     ensures step { ClearsAll B.Bank bank.old bank.new (boot_writes PowerOn (B.now bank.old)) result }
 {
     clear_all(bank, front)?;

@@ -13,8 +13,9 @@ ghost use Rattle.cds_layout.specs.Lines.{AreRight};
 ghost use Rattle.cds_layout.specs.Images.{head_len, is_whole};
 ghost use Rattle.cds_layout.specs.Order.{carried_turns, carry_at, carried_to, carry_calls};
 ghost use Rattle.cds_layout.specs.declared.turns.Place.TheVariants as place;
-ghost use Rattle.cds_store.specs.Boots.{SameStore, Tidied, Carried, IsTidy};
+ghost use Rattle.cds_store.specs.Boots.{CanCarry, SameStore, Tidied, Carried, IsTidy};
 ghost use Rattle.cds_store.specs.Calls.{Steady, CallCounted, is_old};
+ghost use Rattle.cds_store.specs.Sound.{CanHold};
 ghost use Rattle.cds_store.specs.BankSteps.{Keeps, Changes};
 
 use crate::fault::BankFault;
@@ -44,10 +45,8 @@ fn carry_block<B: Bank>(
     block: &Block,
     room: &mut [u8],
 ) -> Result<(), BankFault>
-    requires within { slot < slot_count }
-    requires right { is_right block.now ≡ true }
+    requires can { CanHold B.Bank bank.old slot block.now }
     requires buffer { length room.old ≡ 16392 }
-    requires room { bank_size ≤ B.size bank.old }
     ensures keeps { Keeps B.Bank bank.old bank.new result }
     ensures changes { (old : List ℕ) → (B.tells → slice_index_or (directory_of old) slot None ≡ Some block.now) →
         (B.tells → Carried old (B.now bank.old) slot) →
@@ -66,9 +65,7 @@ fn carry_slot<B: Bank>(
     room: &mut [u8],
 ) -> Result<(), BankFault>
     requires within { slot < slot_count }
-    requires right { AreRight directory.now }
-    requires buffer { length room.old ≡ 16392 }
-    requires room { bank_size ≤ B.size bank.old }
+    requires can { CanCarry B.Bank bank.old directory.now room.old }
     ensures keeps { Keeps B.Bank bank.old bank.new result }
     ensures changes { (old : List ℕ) → (B.tells → directory.now ≡ directory_of old) → (B.tells → Carried old (B.now bank.old) slot) →
         Changes B.Bank bank.old bank.new (λ image. Carried old image (slot + 1)) (SameStore old)
@@ -86,9 +83,7 @@ fn carry_blocks<B: Bank>(
     directory: &Directory,
     room: &mut [u8],
 ) -> Result<(), BankFault>
-    requires right { AreRight directory.now }
-    requires buffer { length room.old ≡ 16392 }
-    requires room { bank_size ≤ B.size bank.old }
+    requires can { CanCarry B.Bank bank.old directory.now room.old }
     ensures keeps { Keeps B.Bank bank.old bank.new result }
     ensures changes { (old : List ℕ) → (B.tells → directory.now ≡ directory_of old) → (B.tells → Carried old (B.now bank.old) 0) →
         Changes B.Bank bank.old bank.new (λ image. Carried old image slot_count) (SameStore old)
@@ -116,9 +111,7 @@ fn carry_over<B: Bank>(
     room: &mut [u8],
     directory: &Directory,
 ) -> Result<(), BankFault>
-    requires right { AreRight directory.now }
-    requires buffer { length room.old ≡ 16392 }
-    requires room { bank_size ≤ B.size bank.old }
+    requires can { CanCarry B.Bank bank.old directory.now room.old }
     ensures keeps { Keeps B.Bank bank.old bank.new result }
     ensures changes { (old : List ℕ) → (B.tells → directory.now ≡ directory_of old) → (B.tells → Carried old (B.now bank.old) 0) →
         Changes B.Bank bank.old bank.new (IsTidy old) (SameStore old)
@@ -137,9 +130,7 @@ pub(crate) fn carry<B: Bank>(
     directory: &Directory,
 ) -> Result<(), BankFault>
     requires len { length front.now ≡ directory_len }
-    requires right { AreRight directory.now }
-    requires buffer { length room.old ≡ 16392 }
-    requires room { bank_size ≤ B.size bank.old }
+    requires can { CanCarry B.Bank bank.old directory.now room.old }
     ensures keeps { Keeps B.Bank bank.old bank.new result }
     ensures changes { (old : List ℕ) → (B.tells → IsFront front.now directory.now old) →
         (B.tells → Tidied old (B.now bank.old) slot_count) →

@@ -5,7 +5,7 @@ ghost use Rattle.std.specs.Option.{option_copied, option_map};
 ghost use Rattle.tbl_kinds.specs.Places.{place};
 ghost use Rattle.tbl_kinds.specs.StoreSteps.{is_of};
 ghost use Rattle.tbl_kinds.specs.Free.{least_free};
-ghost use Rattle.cds_store.specs.Slots.{is_open_slot, is_doubtful_slot, open_slot, doubtful_slot, without_slot, block_of, blocks_of, has_open, room_in};
+ghost use Rattle.cds_store.specs.Slots.{CanFree, is_open_slot, is_doubtful_slot, open_slot, doubtful_slot, without_slot, block_of, blocks_of, has_open, room_in};
 ghost use Rattle.cds_store.specs.Sound.{slot_at};
 
 use crate::block_list::BlockList;
@@ -87,8 +87,7 @@ fn first_free(slots: &[Option<Slot>]) -> Option<usize>
 
 /// The least free slot, the named one counted as free.
 fn free_slot(slots: &[Option<Slot>], without: Option<u8>) -> Option<u8>
-    requires len { length slots.now ≤ 256 }
-    requires within { IfSome without (λ n. n < length slots.now) }
+    requires { CanFree slots.now without }
     ensures { result ≡ least_free (without_slot without slots.now) }
 {
     match without {
@@ -159,8 +158,7 @@ fn add_blocks(slots: &[Option<Slot>], blocks: &mut BlockList)
 
 /// The blocks whose room is taken, without that of the named slot.
 fn blocks_without(slots: &[Option<Slot>], without: Option<u8>) -> BlockList
-    requires len { length slots.now ≤ 128 }
-    requires within { IfSome without (λ n. n < length slots.now) }
+    requires { CanFree slots.now without }
     ensures { result.items ≡ blocks_of (without_slot without slots.now) }
 {
     let mut blocks = BlockList::new();
@@ -177,8 +175,7 @@ fn blocks_without(slots: &[Option<Slot>], without: Option<u8>) -> BlockList
 
 /// The least free slot and the least place for a block of this size, the named slot counted as free.
 pub(crate) fn room_for(slots: &[Option<Slot>], size: u32, without: Option<u8>) -> Option<(u8, u32)>
-    requires len { length slots.now ≤ 128 }
-    requires within { IfSome without (λ n. n < length slots.now) }
+    requires { CanFree slots.now without }
     ensures { result ≡ room_in size (without_slot without slots.now) }
 {
     let slot = free_slot(slots, without)?;

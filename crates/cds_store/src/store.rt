@@ -19,7 +19,7 @@ ghost use Rattle.cds_store.specs.Moments.{BootLeaves, LeavesIn, CopyTears};
 ghost use Rattle.cds_store.specs.Slots.{open_slot, doubtful_slot, without_slot, room_in, block_of, has_open};
 ghost use Rattle.cds_store.specs.Sound.{IsRoom, slot_at, IsOpenOf};
 ghost use Rattle.cds_store.specs.StoreBlocks.{StandsFor, after_fault, held_at, ComesBack};
-ghost use Rattle.cds_store.specs.Promises.{Boots, Reserves, Copies, Restores, Deletes};
+ghost use Rattle.cds_store.specs.Promises.{Finds, Boots, Reserves, Copies, Restores, Deletes};
 
 use crate::boot::boot;
 use crate::fault::{BankFault, ReserveFault};
@@ -194,20 +194,14 @@ impl<B: Bank> Store<B> {
 
     /// The slot of the open block of this kind and name.
     pub fn find(&self, kind: BlockKind, name: &Name40) -> Option<u8>
-        ensures slot { result ≡ open_slot kind name.now self.now.slots }
-        ensures block { (blocks : Blocks) → StandsFor B.tells B.now self.now blocks →
-            result ≡ open_of kind name.now blocks }
-        ensures within { IfSome result (λ slot. slot < 128) }
+        ensures { Finds B.Bank self.now (open_slot kind name.now self.now.slots) (open_of kind name.now) result }
     {
         find_open(&self.slots, kind, name)
     }
 
     /// The slot of the doubtful block of this kind and name.
     pub fn doubtful(&self, kind: BlockKind, name: &Name40) -> Option<u8>
-        ensures slot { result ≡ doubtful_slot kind name.now self.now.slots }
-        ensures block { (blocks : Blocks) → StandsFor B.tells B.now self.now blocks →
-            result ≡ doubtful_of kind name.now blocks }
-        ensures within { IfSome result (λ slot. slot < 128) }
+        ensures { Finds B.Bank self.now (doubtful_slot kind name.now self.now.slots) (doubtful_of kind name.now) result }
     {
         find_doubtful(&self.slots, kind, name)
     }

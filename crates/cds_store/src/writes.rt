@@ -13,6 +13,7 @@ ghost use Rattle.cds_layout.specs.Turns.{byte_of};
 ghost use Rattle.cds_layout.specs.declared.turns.Place.TheVariants as place;
 ghost use Rattle.cds_store.specs.Calls.{Steady, CallCounted, HasFlags, is_gate, is_old};
 ghost use Rattle.cds_store.specs.Moments.{TearsBy, CopyTears, copied_bytes};
+ghost use Rattle.cds_store.specs.Sound.{CanHold};
 ghost use Rattle.cds_store.specs.BankSteps.{Writes, CopiesBytes};
 
 use crate::fault::BankFault;
@@ -60,9 +61,7 @@ pub(crate) fn set_gate<B: Bank>(
 /// Writes what the entry of a slot has after its gate, while that is closed. It closes both places of its block, so what an earlier block
 /// left there never comes back.
 pub(crate) fn write_entry<B: Bank>(bank: &mut B, slot: u8, block: &Block) -> Result<(), BankFault>
-    requires within { slot < slot_count }
-    requires right { is_right block.now ≡ true }
-    requires room { bank_size ≤ B.size bank.old }
+    requires { CanHold B.Bank bank.old slot block.now }
     ensures done { OnOk result (B.tells → block_in (told_at (B.now bank.new) slot) ≡ Some block.now) }
     ensures none { OnOk result (B.tells → turned_in (B.now bank.new) slot ≡ None) }
     ensures len { length (entry_tail block.now) ≡ 63 }
@@ -115,10 +114,8 @@ fn write_spelled<B: Bank>(
     block: &Block,
     place_bytes: &[u8],
 ) -> Result<(), BankFault>
-    requires within { slot < slot_count }
-    requires right { is_right block.now ≡ true }
+    requires can { CanHold B.Bank bank.old slot block.now }
     requires size { length place_bytes.now ≡ head_len + block.now.size }
-    requires room { bank_size ≤ B.size bank.old }
     ensures copies { CopiesBytes B.Bank bank.old bank.new slot block.now place_bytes.now result }
 {
     let turns = read_turns(bank, slot)?;
@@ -138,10 +135,8 @@ pub(crate) fn write_image<B: Bank>(
     image: &Checked<'_>,
     room: &mut [u8],
 ) -> Result<(), BankFault>
-    requires within { slot < slot_count }
-    requires right { is_right block.now ≡ true }
+    requires can { CanHold B.Bank bank.old slot block.now }
     requires size { length image.now ≡ block.now.size }
-    requires bank { bank_size ≤ B.size bank.old }
     requires room { length room.old ≡ 16392 }
     ensures check { check16 image.now < 2 ^ 16 }
     ensures copies { CopiesBytes B.Bank bank.old bank.new slot block.now (spelled block.now.size image.now) result }

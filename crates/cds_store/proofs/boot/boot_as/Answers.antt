@@ -12,7 +12,7 @@ returns-in-Processor-clause-sound g c =
     let room : bank_size ≤ b.size c.boot_processor.new.bank = omega (arith, c.requires.front.room, c.boot_processor.ensures.step.keeps.steady.size_kept) in
     on_ok_two c.boot_processor.result
     (λ slots tidy. processor_sound b.tells b.size b.now c.args.slots.now.items c.args.bank.now c.boot_processor.new.slots.items c.boot_processor.new.bank c.args.directory.now (λ told. (c.requires.front.is told).told) slots tidy c.requires.front.together room)
-    c.boot_processor.ensures.slots c.boot_processor.ensures.step.changes.done
+    c.boot_processor.ensures.slots.slots c.boot_processor.ensures.step.changes.done
 
 pub returns-in-Processor-clause-boots : goal.returns-in-Processor-clause-boots
 returns-in-Processor-clause-boots g c =
@@ -22,12 +22,12 @@ returns-in-Processor-clause-boots g c =
           rw c.in-Processor.is
           (if_ok_two (λ found. found ≡ found_open c.args.slots.now.items c.args.directory.now) _ c.boot_processor.result
           (λ found is slots tidy. processor_stands b.tells b.size b.now c.args.slots.now.items c.args.bank.now c.boot_processor.new.slots.items c.boot_processor.new.bank c.args.directory.now (λ told. (c.requires.front.is told).told) slots tidy found is)
-          c.boot_processor.ensures.found c.boot_processor.ensures.slots c.boot_processor.ensures.step.changes.done);
+          c.boot_processor.ensures.slots.found c.boot_processor.ensures.slots.slots c.boot_processor.ensures.step.changes.done);
       found =
           rw c.in-Processor.is
           (IfOk-weaker c.boot_processor.result (λ found. found ≡ found_open c.args.slots.now.items c.args.directory.now) _
           (λ found is told. is ∙ ap (found_open c.args.slots.now.items) (c.requires.front.is told).told ∙ found_shown c.args.slots.now.items (b.now c.args.bank.now))
-          c.boot_processor.ensures.found);
+          c.boot_processor.ensures.slots.found);
       left = λ told blocks begins.
           rw c.in-Processor.is
           (processor_leaves b.tells b.size b.now c.args.slots.now.items c.args.bank.now told blocks begins (b.now c.boot_processor.new.bank) (c.boot_processor.ensures.step.changes.left told));
@@ -46,7 +46,7 @@ returns-in-PowerOn-clause-sound g c =
     let room : bank_size ≤ b.size c.boot_power_on.new.bank = omega (arith, c.requires.front.room, c.boot_power_on.ensures.step.keeps.steady.size_kept) in
     on_ok_two c.boot_power_on.result
     (λ slots cleared. power_on_sound b.tells b.size b.now c.args.slots.now.items c.args.bank.now c.boot_power_on.new.slots.items c.boot_power_on.new.bank (length c.args.slots.now.items) c.requires.slots slots cleared room)
-    c.boot_power_on.ensures.slots c.boot_power_on.ensures.step.changes.done
+    c.boot_power_on.ensures.slots.slots c.boot_power_on.ensures.step.changes.done
 
 pub returns-in-PowerOn-clause-boots : goal.returns-in-PowerOn-clause-boots
 returns-in-PowerOn-clause-boots g c =
@@ -56,7 +56,7 @@ returns-in-PowerOn-clause-boots g c =
           rw c.in-PowerOn.is
           (if_ok_two (λ found. found ≡ []) _ c.boot_power_on.result
           (λ found is slots cleared told blocks begins. power_on_stands b.tells b.size b.now c.args.slots.now.items c.args.bank.now c.boot_power_on.new.slots.items c.boot_power_on.new.bank (length c.args.slots.now.items) c.requires.slots slots cleared found told blocks)
-          c.boot_power_on.ensures.found c.boot_power_on.ensures.slots c.boot_power_on.ensures.step.changes.done);
+          c.boot_power_on.ensures.slots.found c.boot_power_on.ensures.slots.slots c.boot_power_on.ensures.step.changes.done);
       found = search rules;
       left = λ told blocks begins.
           rw c.in-PowerOn.is

@@ -49,16 +49,16 @@ returns-clause-changes g c old there carried =
           on_ok_weaker c.write.result
           (λ done told.
           let kept = reads.kept told in
-          let long : bank_size ≤ length now = omega (arith, c.requires.room, g.met.B.Bank.whole c.args.bank.now told) in
-          carry_step old now new slot c.requires.within (carried told) (moved c.turns_place.ensures size kept (writes.torn told)) block (there told) c.in_ok-whole.whole (c.in_ok-whole.ensures.whole told)
+          let long : bank_size ≤ length now = omega (arith, c.requires.can.room, g.met.B.Bank.whole c.args.bank.now told) in
+          carry_step old now new slot c.requires.can.within (carried told) (moved c.turns_place.ensures size kept (writes.torn told)) block (there told) c.in_ok-whole.whole (c.in_ok-whole.ensures.whole told)
           (done told ∙ (λ i. patched (kept i) (c.turns_place.ensures i) (c.carried_turns.ensures i))) long)
           writes.done;
-      left = λ told. carry_torn old now new slot c.requires.within (carried told) (moved c.turns_place.ensures size (reads.kept told) (writes.torn told));
+      left = λ told. carry_torn old now new slot c.requires.can.within (carried told) (moved c.turns_place.ensures size (reads.kept told) (writes.torn told));
       moments = λ m.
           let told = g.met.B.Bank.tells_both m in
           goes_on (leaves_among (reads.moments m) (λ image same. subst (SameStore old) (sym same) (carried told).same))
           (writes.moments m)
-          (λ image torn. carry_torn old now image slot c.requires.within (carried told) (moved c.turns_place.ensures size (reads.kept told) torn));
+          (λ image torn. carry_torn old now image slot c.requires.can.within (carried told) (moved c.turns_place.ensures size (reads.kept told) torn));
       bank_calls = λ told.
           asks_then b.tells_calls b.calls c.args.bank.now c.read_first.new.bank c.write.new.bank (is_ok c.write.result) (first_calls block) (write (turns_place slot) (carried_turns (is_whole now block First)) ∷ [])
           c.in_ok-whole.ensures.bank_calls

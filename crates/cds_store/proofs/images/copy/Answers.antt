@@ -14,11 +14,11 @@ use Rattle.cds_store.proofs.Contents.{read_there, open_parts, copy_leaves, broke
 use Rattle.cds_store.proofs.Steps.{within_slots}
 use Rattle.cds_store.proofs.images.copy.Goals as goal
 
-pub write_image-requires-clause-within : goal.write_image-requires-clause-within
-write_image-requires-clause-within g c =
+pub write_image-requires-clause-can : goal.write_image-requires-clause-can
+write_image-requires-clause-can g c =
     let slots = c.args.slots.now in
     let taken = read_there (length c.args.image.now) slots c.args.slot c.index-slots-slot.result c.in-Some.taken c.requires.can c.index-slots-slot.is c.in-Some.is in
-    within_slots slots c.args.slot c.in-Some.taken c.requires.sound.together taken
+    record { within = within_slots slots c.args.slot c.in-Some.taken c.requires.sound.together taken; right = c.requires.sound.together.right c.args.slot c.in-Some.taken taken; room = c.requires.sound.room }
 
 pub returns : goal.returns
 returns g c =
