@@ -15,7 +15,7 @@ use Rattle.cds_layout.proofs.EntryLaws.{right-parts}
 use Rattle.cds_store.specs.Slots.{is_open_slot, is_doubtful_slot, open_slot, doubtful_slot, block_of}
 use Rattle.cds_store.specs.Sound.{slot_at, AreTogether}
 use Rattle.cds_store.specs.declared.slot.Slot.{Slot}
-use Rattle.cds_store.proofs.Reservations.{both_of, same_not}
+use Rattle.cds_store.proofs.NewIsNew.{both_of, same_not}
 
 -- a taken slot of this kind and name, open or in doubt
 abbrev IsTakenBy : BlockKind → List ℕ → Option Slot → Type 0

@@ -23,7 +23,8 @@ use Rattle.cds_store.specs.Boots.{SameStore, Tidied, Carried, IsTidy, opened_slo
 use Rattle.cds_store.proofs.Bytes.{read_again, byte_written}
 use Rattle.cds_store.proofs.Changes.{entry_stays}
 use Rattle.cds_store.proofs.Frames.{gate_stays, told_stays, live_stays, version_stays, turned_stays, held_by_stays}
-use Rattle.cds_store.proofs.Strays.{directory_within, directory_alike, same_store_on, tidy_entry}
+use Rattle.cds_store.proofs.Strays.{same_store_on, tidy_entry}
+use Rattle.cds_store.proofs.DirectoryEntries.{directory_within, directory_alike}
 
 -- in the first version, a block holds what its first place does
 pub held_first : (bytes : List ℕ) (n : ℕ) (b : Block) → is_first_version bytes ≡ true → held_in bytes n b ≡ held_by bytes b (Some First)

@@ -8,7 +8,8 @@ use Rattle.cds_layout.specs.Directory.{directory_len, is_live}
 use Rattle.cds_layout.specs.Entries.{slot_count}
 use Rattle.cds_store.specs.Boots.{SameStore, IsTidy, IsEmptied, IsCleared, Clears, AreZeros, opened_slot}
 use Rattle.cds_store.specs.Sound.{EntryIs}
-use Rattle.cds_store.proofs.Strays.{dead_is_emptied, emptied_alike, shut_is_emptied, same_store, no_blocks_at}
+use Rattle.cds_store.proofs.Strays.{emptied_alike, same_store}
+use Rattle.cds_store.proofs.DirectoryEntries.{dead_is_emptied, shut_is_emptied, no_blocks_at}
 
 pub cleared_is_emptied : (bytes : List ℕ) → IsCleared bytes → IsEmptied bytes
 cleared_is_emptied bytes cleared = shut_is_emptied bytes cleared.shut

@@ -12,7 +12,7 @@ use Rattle.cds_layout.specs.Directory.{is_live, live_mark, is_first_version}
 use Rattle.cds_store.specs.Boots.{is_dead, HasMark, AllShut, AreZeros, IsCleared, IsEmptied, Clears}
 use Rattle.cds_store.proofs.Bytes.{read_again, front}
 use Rattle.cds_store.proofs.Frames.{gate_stays}
-use Rattle.cds_store.proofs.Strays.{dead_is_emptied}
+use Rattle.cds_store.proofs.DirectoryEntries.{dead_is_emptied}
 
 other_first : (x : ℕ) (xs : List ℕ) → not (x == 0x43) ≡ true → is_live (x ∷ xs) ≡ false
 other_first x xs dead = elim (cases_Bool (x == 0x43)) [

@@ -11,14 +11,17 @@ pub mod Reading
 pub mod Recovered
 pub mod Alone
 pub mod Reservations
+pub mod NewIsNew
 pub mod Showing
 pub mod Steps
 pub mod Together
 pub mod Strays
+pub mod DirectoryEntries
 pub mod Emptying
 pub mod Found
 pub mod Emptied
 pub mod Settled
+pub mod Booted
 pub mod TurnLaws
 pub mod Copying
 pub mod CarriedOver

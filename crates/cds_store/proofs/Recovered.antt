@@ -26,7 +26,7 @@ use Rattle.cds_store.specs.Recovery.{cause_of, RecoverCounted, Recovers, open_re
 use Rattle.cds_store.specs.Slots.{is_open_slot, open_slot, block_of}
 use Rattle.cds_store.specs.Sound.{slot_at}
 use Rattle.cds_store.specs.declared.slot.Slot.{Slot}
-use Rattle.cds_store.proofs.Reservations.{both_of, same_not}
+use Rattle.cds_store.proofs.NewIsNew.{both_of, same_not}
 use Rattle.cds_layout.specs.Order.{restore_calls}
 use Rattle.cds_layout.proofs.Stored.{stored_there}
 use Rattle.cds_layout.proofs.Restored.{unheld}

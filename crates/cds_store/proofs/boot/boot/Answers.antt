@@ -9,7 +9,7 @@ use Rattle.cds_layout.specs.Directory.{directory_len}
 use Rattle.cds_layout.specs.Order.{boot_writes}
 use Rattle.cds_store.specs.Boots.{BeginsAt}
 use Rattle.cds_store.specs.StoreBlocks.{StandsFor, kept}
-use Rattle.cds_store.proofs.Settled.{begins_again, read_leaves}
+use Rattle.cds_store.proofs.Booted.{begins_again, read_leaves}
 use Rattle.cds_store.proofs.boot.boot.Goals as goal
 
 pub returns-in_err-read_front-clause-boots : goal.returns-in_err-read_front-clause-boots

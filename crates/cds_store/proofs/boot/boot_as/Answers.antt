@@ -3,7 +3,8 @@ use Rattle.std.proofs.lemmas.Result.{IfOk-weaker}
 use Rattle.tbl_kinds.specs.Places.{bank_size}
 use Rattle.tbl_outside.proofs.Moments.{leaves_among}
 use Rattle.cds_store.specs.Boots.{found_open}
-use Rattle.cds_store.proofs.Settled.{on_ok_two, if_ok_two, processor_sound, processor_stands, processor_leaves, power_on_sound, power_on_stands, power_on_leaves, found_shown}
+use Rattle.cds_store.proofs.Settled.{found_shown}
+use Rattle.cds_store.proofs.Booted.{on_ok_two, if_ok_two, processor_sound, processor_stands, processor_leaves, power_on_sound, power_on_stands, power_on_leaves}
 use Rattle.cds_store.proofs.boot.boot_as.Goals as goal
 
 pub returns-in-Processor-clause-sound : goal.returns-in-Processor-clause-sound

@@ -2,7 +2,7 @@ use Rattle.std.proofs.Common.{rules, arith}
 use Rattle.std.proofs.lemmas.Result.{on_ok_weaker}
 use Rattle.tbl_outside.proofs.Moments.{leaves_among}
 use Rattle.cds_store.proofs.Emptying.{cleared, shut_stays}
-use Rattle.cds_store.proofs.Strays.{shut_is_emptied}
+use Rattle.cds_store.proofs.DirectoryEntries.{shut_is_emptied}
 use Rattle.cds_store.proofs.clearing.open_live.Goals as goal
 
 pub returns : goal.returns

@@ -1,6 +1,6 @@
 use Rattle.std.proofs.Common.{refl, sym}
 use Rattle.cds_store.proofs.Recovered.{found_there}
-use Rattle.cds_store.proofs.Reservations.{found_is_open}
+use Rattle.cds_store.proofs.NewIsNew.{found_is_open}
 use Rattle.cds_store.proofs.recovery.find_open_block.Goals as goal
 
 pub unreachable-requires : goal.unreachable-requires

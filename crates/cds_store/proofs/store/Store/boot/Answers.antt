@@ -2,7 +2,7 @@ use Rattle.std.proofs.Common.{refl, subst, true, false, Ok, Err}
 use Rattle.cds_layout.specs.Order.{boot_calls}
 use Rattle.cds_store.specs.Promises.{Boots}
 use Rattle.cds_store.specs.StoreBlocks.{StoreParts}
-use Rattle.cds_store.proofs.Settled.{boots_store}
+use Rattle.cds_store.proofs.Booted.{boots_store}
 use Rattle.cds_store.proofs.store.Store.boot.Goals as goal
 
 pub returns-in-Ok-clause-boots : goal.returns-in-Ok-clause-boots

@@ -2,7 +2,7 @@ use Rattle.std.proofs.Common.{List, Option, subst}
 use Rattle.cds_store.specs.Promises.{Copies}
 use Rattle.cds_store.specs.StoreBlocks.{kept}
 use Rattle.cds_store.specs.declared.slot.Slot.{Slot}
-use Rattle.cds_store.proofs.Settled.{of_store}
+use Rattle.cds_store.proofs.Booted.{of_store}
 use Rattle.cds_store.proofs.store.Store.copy.Goals as goal
 
 pub returns : goal.returns

@@ -1,6 +1,6 @@
 use Rattle.std.proofs.Common.{false}
 use Rattle.cds_store.specs.Promises.{Deletes}
-use Rattle.cds_store.proofs.Settled.{of_store}
+use Rattle.cds_store.proofs.Booted.{of_store}
 use Rattle.cds_store.proofs.store.Store.delete_block.Goals as goal
 
 pub returns : goal.returns

@@ -1,4 +1,4 @@
-use Rattle.cds_store.proofs.Settled.{made_kept}
+use Rattle.cds_store.proofs.Booted.{made_kept}
 use Rattle.cds_store.proofs.store.Store.make.Goals as goal
 
 pub invariant_of-result : goal.invariant_of-result

@@ -1,5 +1,5 @@
 use Rattle.cds_store.specs.Promises.{Reserves}
-use Rattle.cds_store.proofs.Settled.{of_store}
+use Rattle.cds_store.proofs.Booted.{of_store}
 use Rattle.cds_store.proofs.store.Store.reserve_block.Goals as goal
 
 pub returns : goal.returns
