@@ -1,5 +1,5 @@
 -- A reservation on the slots is one on the blocks that they represent.
-use Rattle.std.proofs.Common.{◌≡◌, inl, inr, ℕ, ◌-◌, List, [], ◌∷◌, map, slice_set, Bool, true, false, not, ◌&&◌, Option, Some, None, is_some, is_none, IsSome, refl, sym, ◌∙◌, ap, subst}
+use Rattle.std.proofs.Common.{◌≡◌, inl, inr, ℕ, List, [], ◌∷◌, map, slice_set, Bool, true, false, not, ◌&&◌, Option, Some, None, is_some, is_none, IsSome, refl, sym, ◌∙◌, ap, subst}
 use Rattle.std.specs.Option.{option_map}
 use Rattle.std.proofs.lemmas.Bool.{and_parts}
 use Rattle.std.proofs.lemmas.List.{map-set, set-get_or}

@@ -8,7 +8,7 @@ use Rattle.tbl_outside.specs.BankCalls.{BankCall, Asks, write}
 use Rattle.tbl_outside.specs.declared.bank.Bank.{Ghosts}
 use Rattle.cds_layout.specs.Order.{copy_calls}
 use Rattle.cds_store.specs.Boots.{SameStore, IsTidy, IsCleared, Clears}
-use Rattle.cds_store.specs.Calls.{Steady, CallCounted, HasFlags, is_gate, is_old}
+use Rattle.cds_store.specs.Calls.{Steady, CallCounted, is_gate, is_old}
 use Rattle.cds_store.specs.Moments.{TearsBy, CopyTears, copied_bytes}
 use Rattle.cds_store.specs.Sound.{IsSound}
 use Rattle.cds_store.specs.StoreBlocks.{StoreParts, StandsFor}

@@ -105,22 +105,6 @@ fn write_version<B: Bank>(bank: &mut B) -> Result<(), BankFault>
     write(bank, VERSION_PLACE, &[VERSION], false, false)
 }
 
-/// Carries a store of the first version over.
-fn carry_over<B: Bank>(
-    bank: &mut B,
-    room: &mut [u8],
-    directory: &Directory,
-) -> Result<(), BankFault>
-    requires can { CanCarry B.Bank bank.old directory.now room.old }
-    ensures keeps { Keeps B.Bank bank.old bank.new result }
-    ensures changes { (old : List ℕ) → (B.tells → directory.now ≡ directory_of old) → (B.tells → Carried old (B.now bank.old) 0) →
-        Changes B.Bank bank.old bank.new (IsTidy old) (SameStore old)
-        (carried_to slot_count old (directory_of old) ++ write version_place (0x32 ∷ []) ∷ []) result }
-{
-    carry_blocks(bank, directory, room)?;
-    write_version(bank)
-}
-
 /// Carries a store of the first version over; one of another is as it is to be. The first bytes and the directory are those
 /// with which the boot began.
 pub(crate) fn carry<B: Bank>(
@@ -137,7 +121,8 @@ pub(crate) fn carry<B: Bank>(
         Changes B.Bank bank.old bank.new (IsTidy old) (SameStore old) (carry_calls old) result }
 {
     if is_first_version(front) {
-        carry_over(bank, room, directory)
+        carry_blocks(bank, directory, room)?;
+        write_version(bank)
     } else {
         Ok(())
     }

@@ -18,8 +18,8 @@ ghost use Rattle.cds_store.specs.BankSteps.{Writes, CopiesBytes};
 
 use crate::fault::BankFault;
 use cds_layout::{
-    HEAD_LENGTH, Place, Turn, entry_bytes, gate_place, place_offset, read_turns, spell,
-    turn_byte, turn_place,
+    HEAD_LENGTH, Place, Turn, entry_bytes, gate_place, place_offset, read_turns, spell, turn_byte,
+    turn_place,
 };
 use check_word::Checked;
 use tbl_kinds::Block;

@@ -1,4 +1,4 @@
-use Rattle.std.proofs.Common.{rules, ◌≡◌, ◌+◌, ◌≤◌, ℕ, List, [], ◌∷◌, length, is_ok, sym, subst, ◌∙◌, ap, arith, false, Some}
+use Rattle.std.proofs.Common.{rules, ◌≡◌, ◌≤◌, ℕ, List, [], ◌∷◌, length, is_ok, sym, subst, ◌∙◌, ap, arith, false, Some}
 use Rattle.std.proofs.lemmas.Result.{on_ok_weaker}
 use Rattle.tbl_kinds.specs.Places.{bank_size}
 use Rattle.tbl_kinds.specs.Numbers.{patched}
