@@ -10,7 +10,7 @@ use Rattle.tbl_kinds.specs.Numbers.{two, byte_at}
 use Rattle.tbl_kinds.specs.Requests.{IsFromGround, HasNoValidator255, Fits}
 use Rattle.tbl_kinds.specs.Records.{Pair, IsRecord, kind_of, actor_number, body_of, spelling}
 use Rattle.tbl_kinds.specs.Heads.{is_good_head, stated_len}
-use Rattle.tbl_kinds.proofs.RecordLaws.{or_true, good_within}
+use Rattle.tbl_kinds.proofs.InputLaws.{or_true, good_within}
 use Rattle.tbl_kinds.specs.declared.request.Actor.{Actor}
 use Rattle.tbl_kinds.specs.declared.request.Actor.TheVariants.{App}
 use Rattle.tbl_kinds.specs.declared.request.Request.{Request}

@@ -4,6 +4,8 @@ pub mod NameFields
 pub mod PositionLaws
 pub mod FreeLaws
 pub mod RecordLaws
+pub mod RequestLaws
+pub mod InputLaws
 pub mod TranscriptLaws
 pub mod Tries
 pub mod PlainNotes

@@ -5,7 +5,7 @@ use Rattle.std.proofs.lemmas.List.Concat.{length-flat_map}
 use Rattle.tbl_kinds.specs.Records.{Pair, spelling, joined}
 use Rattle.tbl_kinds.specs.Transcript.{pair_of, pairs_of, entry_bytes, entries_bytes, offset_of}
 use Rattle.tbl_kinds.specs.declared.entry.Entry.{Entry}
-use Rattle.tbl_kinds.proofs.RecordLaws.{joined-snoc}
+use Rattle.tbl_kinds.proofs.InputLaws.{joined-snoc}
 
 pub pairs_of-snoc : (entries : List Entry) (e : Entry) → pairs_of (entries ++ e ∷ []) ≡ pairs_of entries ++ pair_of e ∷ []
 pairs_of-snoc [] e = refl

@@ -4,7 +4,7 @@ use Rattle.std.specs.Prelude.{◌<◌}
 use Rattle.std.proofs.lemmas.List.{append-nil, length-drop, drop-drop, take-append-drop, nil_from_length}
 use Rattle.tbl_kinds.specs.Records.{joined}
 use Rattle.tbl_kinds.specs.Transcript.{pairs_of}
-use Rattle.tbl_kinds.proofs.RecordLaws.{short-length, bad-append}
+use Rattle.tbl_kinds.proofs.InputLaws.{short-length, bad-append}
 use Rattle.tbl_kinds.specs.declared.entry.Entry.{Entry}
 use Rattle.tbl_outside.specs.declared.bank.Bank.{Ghosts}
 use Rattle.tbl_stream.specs.Playing.{Moment, Plays, PlaysOf}

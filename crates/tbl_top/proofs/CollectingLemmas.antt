@@ -4,7 +4,7 @@ use Rattle.std.proofs.lemmas.List.{append-nil, length-append, length-drop, drop-
 use Rattle.std.specs.List.{AllByRecursion}
 use Rattle.tbl_kinds.specs.Records.{Pair, IsRecord, spelling, joined, record_limit}
 use Rattle.tbl_kinds.specs.declared.request.Request.{Request}
-use Rattle.tbl_kinds.proofs.RecordLaws.{joined-snoc, each-snoc}
+use Rattle.tbl_kinds.proofs.InputLaws.{joined-snoc, each-snoc}
 use Rattle.tbl_session.specs.Actors.{actor_count}
 use Rattle.tbl_crew.specs.Scripts.{pushed}
 use Rattle.tbl_top.specs.Collecting.{Collecting, HasTaken, TakesOne, put_last, scripts_of}

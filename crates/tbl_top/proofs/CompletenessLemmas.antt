@@ -5,7 +5,7 @@ use Rattle.std.specs.Io.KnownBytes.{prepend_known, IsAtEnd}
 use Rattle.std.proofs.lemmas.List.{append-nil, length-append}
 use Rattle.tbl_kinds.specs.Records.{Pair, joined, record_limit}
 use Rattle.tbl_kinds.specs.Heads.{IsShort, IsBad, is_short, is_bad, EndsBefore}
-use Rattle.tbl_kinds.proofs.RecordLaws.{bad-append, no_rest}
+use Rattle.tbl_kinds.proofs.InputLaws.{bad-append, no_rest}
 use Rattle.tbl_outside.specs.Counts.{Rose}
 use Rattle.tbl_outside.specs.declared.bank.Bank.{Ghosts}
 use Rattle.tbl_session.specs.Inputs.{IsWellFormed}

@@ -4,7 +4,7 @@ use Rattle.std.proofs.lemmas.List.{append-nil, length-append, length-map, length
 use Rattle.tbl_kinds.specs.Records.{joined, BeginsWith, AreRecords}
 use Rattle.tbl_kinds.specs.Heads.{EndsBefore}
 use Rattle.tbl_kinds.specs.Transcript.{pair_of, pairs_of}
-use Rattle.tbl_kinds.proofs.RecordLaws.{short-length, bad-append, are_records}
+use Rattle.tbl_kinds.proofs.InputLaws.{short-length, bad-append, are_records}
 use Rattle.tbl_core.specs.Service.{CoreView}
 use Rattle.tbl_top.specs.Playing.{played_before, IsSession}
 use Rattle.tbl_session.specs.Inputs.{IsBeginning}

@@ -16,7 +16,8 @@ use Rattle.tbl_top.specs.Playing.{IsSession}
 use Rattle.tbl_top.specs.Standing.{Leaves, TellsCause, TellsLast}
 use Rattle.tbl_top.specs.declared.playback.Standing.{Standing}
 use Rattle.tbl_top.specs.declared.playback.Standing.TheVariants.{Open, Bad, Full, BootFault, BootStopped, SinkFailed, Memory, Unwritten}
-use Rattle.tbl_kinds.proofs.RecordLaws.{joined-snoc, length-spelling}
+use Rattle.tbl_kinds.proofs.RecordLaws.{length-spelling}
+use Rattle.tbl_kinds.proofs.InputLaws.{joined-snoc}
 use Rattle.tbl_kinds.proofs.TranscriptLaws.{pairs_of-snoc, offset_is}
 use Rattle.tbl_kinds.specs.declared.entry.Entry.{Entry}
 

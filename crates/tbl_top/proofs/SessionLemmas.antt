@@ -6,7 +6,7 @@ use native.Mathlib.Decide.{ℕ_discrete}
 use Rattle.std.specs.Io.KnownBytes.{prepend_known, IsAtEnd}
 use Rattle.tbl_kinds.specs.StoreSteps.{Shows}
 use Rattle.cds_layout.specs.Images.{store_of}
-use Rattle.tbl_kinds.proofs.RecordLaws.{are_records}
+use Rattle.tbl_kinds.proofs.InputLaws.{are_records}
 use Rattle.tbl_kinds.specs.Records.{Pair}
 use Rattle.tbl_kinds.specs.Transcript.{pair_of, pairs_of, entries_bytes}
 use Rattle.tbl_outside.specs.declared.bank.Bank.{Ghosts}
