@@ -1,7 +1,7 @@
 -- Bytes of a pinned image that were taken before they are read.
 use Rattle.std.specs.Prelude.{◌≡◌, ℕ, List, Ok}
 use Rattle.tbl_model.specs.State.{Tables}
-use Rattle.tbl_model.specs.TableSteps.{read}
+use Rattle.tbl_model.specs.AddressSteps.{read}
 
 -- a read gives these bytes
 abbrev pub Reads : ℕ → ℕ → ℕ → Tables → List ℕ → Type 0

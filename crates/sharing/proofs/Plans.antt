@@ -14,7 +14,7 @@ use Rattle.tbl_model.specs.Subjects.{by_app}
 use Rattle.tbl_model.specs.Applications.{full_name}
 use Rattle.tbl_model.specs.Refusals.{by_answer, plan_refusal}
 use Rattle.tbl_model.specs.Registration.{name_refusal, place_refusal, new_effect, register_effect}
-use Rattle.tbl_model.proofs.RefusalLaws.{Refuses, plan_refused}
+use Rattle.tbl_model.proofs.RefusalAnswers.{Refuses, plan_refused}
 use Rattle.sharing.specs.Apps.{app_name}
 use Rattle.sharing.specs.Registering.{next_row, next_handle}
 

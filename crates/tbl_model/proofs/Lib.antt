@@ -1,4 +1,5 @@
 pub mod RefusalLaws
+pub mod RefusalAnswers
 pub mod CountsLaws
 pub mod HistoryLaws
 pub mod NoteLaws

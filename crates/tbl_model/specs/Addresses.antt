@@ -1,7 +1,7 @@
 -- Addresses of tables: got, read through, and given back.
 use Rattle.std.specs.Prelude.{ℕ, List, false, Result, Ok, Err}
 use Rattle.tbl_model.specs.State.{State}
-use Rattle.tbl_model.specs.TableSteps.{Step, get_address, release, read}
+use Rattle.tbl_model.specs.AddressSteps.{Step, get_address, release, read}
 use Rattle.tbl_model.specs.Effects.{Effect, answered}
 use Rattle.tbl_model.specs.Subjects.{if_handle}
 use Rattle.tbl_kinds.specs.declared.status.Status.{Status}

@@ -7,6 +7,7 @@ pub mod StoreUse
 pub mod StoreNotes
 pub mod Given
 pub mod TableSteps
+pub mod AddressSteps
 pub mod Pending
 pub mod Fit
 pub mod Registry

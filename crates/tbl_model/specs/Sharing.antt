@@ -5,7 +5,7 @@ use Rattle.tbl_kinds.specs.Free.{least_free}
 use Rattle.tbl_kinds.specs.Telemetry.{registry_record}
 use Rattle.tbl_model.specs.State.{State, Handle}
 use Rattle.tbl_model.specs.Tables.{table_at}
-use Rattle.tbl_model.specs.TableSteps.{find, handle_at, is_that, with_handle, new_handle, give_back, without_handle, remove, registered_by, set_notice}
+use Rattle.tbl_model.specs.TableSteps.{find, handle_at, is_that, with_handle, give_back, without_handle, remove, registered_by, set_notice, new_handle}
 use Rattle.tbl_model.specs.Pending.{of_other_rows}
 use Rattle.tbl_model.specs.Registry.{registry_row}
 use Rattle.tbl_model.specs.Effects.{Effect, answered}

@@ -6,7 +6,8 @@ use Rattle.std.proofs.lemmas.List.{map-set}
 use Rattle.std.proofs.lemmas.Option.{same_Some}
 use Rattle.std.proofs.lemmas.Bool.Decides.{nat_tests}
 use Rattle.tbl_model.specs.State.{Table, Handle, Tables}
-use Rattle.tbl_model.specs.TableSteps.{access_of, handle_at, new_handle, with_handle, with_table, give_back, give_back_by, get_address, release, read, drop_before}
+use Rattle.tbl_model.specs.TableSteps.{access_of, handle_at, new_handle, with_handle, with_table, give_back, give_back_by, drop_before}
+use Rattle.tbl_model.specs.AddressSteps.{get_address, release, read}
 use Rattle.tbl_model.specs.Tables.{uses_buffer}
 use Rattle.access_desc.specs.declared.handle_view.HandleView.{HandleView}
 use Rattle.access_desc.specs.Steps.{at_place, changed_at, has, pins_old, with_no_pin, new_handle as new_view}

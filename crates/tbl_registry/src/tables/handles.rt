@@ -6,7 +6,8 @@ ghost use Rattle.tbl_model.specs.State.{Table, Handle};
 ghost use Rattle.tbl_model.specs.Management.{pending_status};
 ghost use Rattle.tbl_kinds.specs.Free.{least_free};
 ghost use Rattle.tbl_model.specs.Tables.{table_at};
-ghost use Rattle.tbl_model.specs.TableSteps.{check, handle_at, access_of, get_address, release, locker, new_handle, with_handle, give_back, registered_by};
+ghost use Rattle.tbl_model.specs.TableSteps.{check, handle_at, access_of, locker, new_handle, with_handle, give_back, registered_by};
+ghost use Rattle.tbl_model.specs.AddressSteps.{get_address, release};
 ghost use Rattle.access_desc.specs.Steps.{at_place, changed_at, has, pins, pins_old, with_no_pin};
 ghost use Rattle.tbl_registry.specs.Seen.{handle_of, tables_of, with_last, drop_before_unless};
 

@@ -2,7 +2,8 @@
 
 ghost use Rattle.std.specs.Prelude.{◌≡◌, ◌<◌, ◌≤◌, Ok, Err, IsSome, IfOk, OnOk, IfErr, IfSome, OnSome, is_some, length};
 ghost use Rattle.tbl_kinds.specs.Limits.{table_limit};
-ghost use Rattle.tbl_model.specs.TableSteps.{access_of, read};
+ghost use Rattle.tbl_model.specs.AddressSteps.{read};
+ghost use Rattle.tbl_model.specs.TableSteps.{access_of};
 ghost use Rattle.tbl_registry.specs.Lending.{pins_image, lent_at};
 
 use super::Tables;
