@@ -13,7 +13,8 @@ use Rattle.tbl_outside.specs.declared.validator.KitEntry.{KitEntry}
 use Rattle.validation.specs.Kits.{entry_at}
 use Rattle.validation.specs.Asked.{GivesEach}
 use Rattle.tbl_laws.proofs.Cases.{OfEffect}
-use Rattle.tbl_laws.proofs.Kept.{IsKept, kept}
+use Rattle.tbl_laws.proofs.KeptEvents.{IsKept}
+use Rattle.tbl_laws.proofs.Kept.{kept}
 use Rattle.tbl_session.specs.Verdicts.{questions_in, AreGiven, verdict_of, KeepsToFunctions}
 
 -- the table that has this function

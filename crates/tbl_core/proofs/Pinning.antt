@@ -6,7 +6,8 @@ use Rattle.std.proofs.lemmas.Bool.{eqb-true, eq-eqb, and_parts, or_parts, not-tr
 use Rattle.std.proofs.lemmas.List.{get_or-set_same}
 use Rattle.tbl_model.specs.State.{State, Table, Handle, Tables, no_tables}
 use Rattle.tbl_model.specs.Tables.{table_at}
-use Rattle.tbl_model.specs.TableSteps.{Access, handle_at, image_of, pin_last, with_handle}
+use Rattle.tbl_model.specs.TableSteps.{Access, handle_at, image_of, with_handle}
+use Rattle.tbl_model.specs.AddressSteps.{pin_last}
 use Rattle.tbl_model.specs.Effects.{Effect}
 use Rattle.tbl_model.specs.Addresses.{stepped}
 use Rattle.tbl_model.specs.Given.{Given}
@@ -21,8 +22,9 @@ use Rattle.tbl_kinds.specs.declared.request.Request.{Request}
 use Rattle.tbl_kinds.specs.declared.request.Request.TheVariants as ask
 use Rattle.tbl_kinds.specs.declared.status.Status.{Status}
 use Rattle.tbl_kinds.specs.declared.status.TheConstants.Status.{INFO_STOPPED}
-use Rattle.tbl_model.proofs.RefusalLaws.{is_refusal}
-use Rattle.tbl_laws.proofs.Cases.{OfEffect, Leads, access_at, access_is, by_get}
+use Rattle.tbl_model.proofs.RefusalAnswers.{is_refusal}
+use Rattle.tbl_laws.proofs.Cases.{OfEffect, Leads, access_at, access_is}
+use Rattle.tbl_laws.proofs.AddressCases.{by_get}
 use Rattle.tbl_laws.proofs.Pins.{nothing_there, within, some_there, GoesOn, IsLoaded, AreLoaded, Remains, Keeps}
 use Rattle.tbl_laws.proofs.Fair.{Gets, Fair}
 use Rattle.tbl_laws.proofs.FairRequests.{request_fair}

@@ -14,7 +14,7 @@ use Rattle.tbl_kinds.specs.StoreSteps.{open_of, stored_at, has_room}
 use Rattle.tbl_kinds.specs.StoreCalls.{StoreCall, copy, restore, delete, after}
 use Rattle.tbl_model.specs.State.{State, Table, Dump, quiet, requested, filled}
 use Rattle.tbl_model.specs.Tables.{table_at, is_critical, critical_count, rows_where}
-use Rattle.tbl_model.specs.TableSteps.{find, handle_at, added, last_image, filled_with, new_table, with_first, as_registered, uncritical, drop_before, end_dump}
+use Rattle.tbl_model.specs.TableSteps.{find, handle_at, last_image, filled_with, uncritical, drop_before, end_dump, added, new_table, with_first, as_registered}
 use Rattle.tbl_model.specs.Effects.{Effect, answered}
 use Rattle.tbl_model.specs.Given.{Given, verdict_at}
 use Rattle.tbl_model.specs.CriticalTables.{critical_limit, registered, not_kept, recovered, instead, kept_effect}
@@ -28,7 +28,7 @@ use Rattle.tbl_model.specs.Dumps.{Ended, end_by, then_end, is_filled, dumps_ende
 use Rattle.tbl_model.specs.Sharing.{give_up, is_handle_of, give_up_if, without_handles_of, ended_app}
 use Rattle.tbl_model.specs.Validations.{marked}
 use Rattle.tbl_model.specs.Dispatch.{effect_of}
-use Rattle.tbl_model.proofs.RefusalLaws.{is_refusal}
+use Rattle.tbl_model.proofs.RefusalAnswers.{is_refusal}
 use Rattle.tbl_kinds.specs.declared.block.BlockKind.TheVariants.{Table as of_table, App as of_app}
 use Rattle.tbl_kinds.specs.declared.note.BankNote.{BankNote}
 use Rattle.tbl_kinds.specs.declared.note.Outcome.{Outcome}
@@ -45,7 +45,12 @@ use Rattle.tbl_laws.proofs.Descents.{Descends, same_descends, set_descends, chan
 use Rattle.tbl_laws.proofs.TableBlocks.{HasBlock, has_block, change_keeps}
 use Rattle.tbl_laws.proofs.Calls.{SuitAll, app_renewal_suits, table_renewal_suits, app_delete_suits, table_delete_suits, all_done, renewal_has}
 use Rattle.tbl_laws.proofs.Backing.{boot_backed, descends_backed, calls_backed, registered_backed}
-use Rattle.tbl_laws.proofs.Cases.{OfEffect, Commands, by_command, by_file, by_start, by_new, by_share, by_unregister, by_load_image, by_load_file, by_app_validate, by_update, by_manage, by_get_status, by_get, by_read, by_release, by_dump_to_buffer, by_edit, by_info, by_notify, by_exit, makes_block, copies_block, restores_block, deletes_block, Copies}
+use Rattle.tbl_laws.proofs.Cases.{OfEffect, Copies}
+use Rattle.tbl_laws.proofs.AddressCases.{by_get, by_read, by_release}
+use Rattle.tbl_laws.proofs.ApplicationCases.{by_new, by_start, by_share, by_unregister, by_info, by_notify, by_exit}
+use Rattle.tbl_laws.proofs.LoadCases.{by_load_image, by_load_file, by_app_validate, by_update, by_manage, by_get_status, by_dump_to_buffer, by_edit}
+use Rattle.tbl_laws.proofs.BlockCases.{makes_block, copies_block, restores_block, deletes_block}
+use Rattle.tbl_laws.proofs.CommandCases.{Commands, by_command, by_file}
 
 -- ---- dumps that end, and handles that are given up
 

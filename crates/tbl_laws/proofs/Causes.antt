@@ -15,7 +15,7 @@ use Rattle.tbl_model.specs.Whole.{is_done}
 use Rattle.tbl_model.specs.BankCounts.{tells_trouble, stopped_once, stops_in, HasCause}
 use Rattle.tbl_model.specs.Boots.{reset_status}
 use Rattle.tbl_model.specs.Dispatch.{effect_of}
-use Rattle.tbl_model.proofs.RefusalLaws.{is_refusal}
+use Rattle.tbl_model.proofs.RefusalAnswers.{is_refusal}
 use Rattle.tbl_kinds.specs.declared.entry.Answer.{Answer}
 use Rattle.tbl_kinds.specs.declared.note.BankNote.{BankNote}
 use Rattle.tbl_kinds.specs.declared.note.Outcome.TheVariants.{Stopped}
@@ -25,7 +25,12 @@ use Rattle.tbl_kinds.specs.declared.request.Request.{Request}
 use Rattle.tbl_kinds.specs.declared.request.Request.TheVariants as ask
 use Rattle.tbl_kinds.specs.declared.status.Status.{Status}
 use Rattle.tbl_kinds.specs.declared.status.TheConstants.Status.{SUCCESS, INFO_UPDATED, INFO_TABLE_LOCKED, INFO_STOPPED, INFO_UPDATE_PENDING, INFO_VALIDATION_PENDING, INFO_DUMP_PENDING, ERR_VALIDATION_FAILED, ERR_CDS_FAULT, ERR_BOOT_FAULT}
-use Rattle.tbl_laws.proofs.Cases.{OfEffect, Commands, by_command, by_file, by_start, by_register, by_share, by_unregister, by_load_image, by_load_file, by_app_validate, by_update, by_manage, by_dump_to_buffer, by_edit, by_get_status, by_get, by_read, by_release, by_info, by_notify, by_exit, CallsStore, by_delete, by_cds_register, by_cds_copy, by_cds_restore, by_cds_delete, Copies}
+use Rattle.tbl_laws.proofs.Cases.{OfEffect, CallsStore, Copies}
+use Rattle.tbl_laws.proofs.AddressCases.{by_get, by_read, by_release}
+use Rattle.tbl_laws.proofs.ApplicationCases.{by_register, by_start, by_share, by_unregister, by_info, by_notify, by_exit}
+use Rattle.tbl_laws.proofs.LoadCases.{by_load_image, by_load_file, by_app_validate, by_update, by_manage, by_dump_to_buffer, by_edit, by_get_status}
+use Rattle.tbl_laws.proofs.BlockCases.{by_delete, by_cds_register, by_cds_copy, by_cds_restore, by_cds_delete}
+use Rattle.tbl_laws.proofs.CommandCases.{Commands, by_command, by_file}
 
 -- an answer that reports no trouble needs none
 harmless : (status : Status) (note : BankNote) → tells_trouble status ≡ false → HasCause status note

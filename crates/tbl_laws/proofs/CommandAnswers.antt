@@ -3,7 +3,7 @@ use Rattle.std.proofs.Common.{◌≡◌, ℕ, Bool, true, false, List, Option, S
 use Rattle.std.specs.Prelude.{◌==◌, not, length, if◌then◌else◌, slice_get}
 use Rattle.tbl_kinds.specs.Packets.{PacketFlaw, packet_flaw, packet_id, packet_code, packet_payload, command_id, housekeeping_request_id}
 use Rattle.tbl_kinds.specs.GroundCommands.{GroundCommand, Form, forms, housekeeping_form, table_of, file_of, is_named, refused, with_names, by_form, by_code, by_id, by_flaw, command_in}
-use Rattle.tbl_model.proofs.RefusalLaws.{is_refusal}
+use Rattle.tbl_model.proofs.RefusalAnswers.{is_refusal}
 use Rattle.tbl_kinds.specs.declared.entry.Answer.{Answer}
 use Rattle.tbl_kinds.specs.declared.status.TheConstants.Status.{ERR_BAD_MESSAGE_ID, ERR_BAD_LENGTH, ERR_BAD_NAME}
 

@@ -22,7 +22,7 @@ use Rattle.tbl_model.specs.Copies.{is_activation, went_active, block_of, copy_fa
 use Rattle.tbl_model.specs.StoreUse.{with_calls, by_outcome}
 use Rattle.tbl_model.specs.Boots.{stopped}
 use Rattle.tbl_model.specs.declared.telemetry.TelemetryEvent.{TelemetryEvent}
-use Rattle.tbl_model.proofs.RefusalLaws.{is_refusal, image_refused, closed_refused, file_refused, update_refused}
+use Rattle.tbl_model.proofs.RefusalAnswers.{is_refusal, image_refused, closed_refused, file_refused, update_refused}
 use Rattle.tbl_kinds.specs.declared.note.BankNote.{BankNote}
 use Rattle.tbl_kinds.specs.declared.note.Outcome.{Outcome}
 use Rattle.tbl_kinds.specs.declared.note.Outcome.TheVariants.{Untouched, Done as AllDone, Failed, Stopped}
@@ -33,7 +33,8 @@ use Rattle.tbl_laws.proofs.Pins.{some_there}
 use Rattle.tbl_laws.proofs.Changes.{with_found, either}
 use Rattle.tbl_laws.proofs.Descents.{StoodBefore, managed_store}
 use Rattle.tbl_laws.proofs.Options.{Leaves, update_leaves, load_image_leaves, app_file_leaves, manage_leaves}
-use Rattle.tbl_laws.proofs.Cases.{by_ladder, by_load_ladder, by_verdict, by_file_of}
+use Rattle.tbl_laws.proofs.Cases.{by_ladder, by_load_ladder, by_file_of}
+use Rattle.tbl_laws.proofs.LoadCases.{by_verdict}
 
 -- ---- what is copied, and where
 

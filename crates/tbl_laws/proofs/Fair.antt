@@ -4,7 +4,8 @@ use Rattle.std.proofs.lemmas.Bool.{eqb-false, eq-eqb, ne_eqb, or_from, or_parts,
 use Rattle.std.proofs.lemmas.Option.{same_Some}
 use Rattle.tbl_model.specs.State.{State, Table, Handle, Tables, no_tables}
 use Rattle.tbl_model.specs.Tables.{table_at}
-use Rattle.tbl_model.specs.TableSteps.{handle_at, access_of, Access, pin_last}
+use Rattle.tbl_model.specs.TableSteps.{handle_at, access_of, Access}
+use Rattle.tbl_model.specs.AddressSteps.{pin_last}
 use Rattle.tbl_model.specs.Effects.{Effect}
 use Rattle.tbl_model.specs.Addresses.{stepped}
 use Rattle.tbl_model.specs.Counts.{is_reset}
@@ -17,7 +18,7 @@ use Rattle.tbl_kinds.specs.declared.request.Request.{Request}
 use Rattle.tbl_kinds.specs.declared.request.Request.TheVariants as ask
 use Rattle.tbl_kinds.specs.declared.status.Status.{Status}
 use Rattle.tbl_kinds.specs.declared.status.TheConstants.Status.{SUCCESS, INFO_UPDATED, INFO_STOPPED}
-use Rattle.tbl_model.proofs.RefusalLaws.{is_refusal}
+use Rattle.tbl_model.proofs.RefusalAnswers.{is_refusal}
 use Rattle.tbl_laws.proofs.Cases.{Leads, access_is}
 use Rattle.tbl_laws.proofs.Pins.{at_set, nothing_there, kept, IsNear, GoesOn, AreLoaded, Remains, Keeps, stays_goes_on, stays_keeps}
 

@@ -1,28 +1,25 @@
 -- Each request is fair to pins.
 use Rattle.tbl_kinds.specs.Numbers.{patched}
-use Rattle.std.proofs.Common.{◌≡◌, ◌≢◌, ℕ, zero, suc, eqb, nat_lt, List, [], ◌∷◌, length, Bool, true, false, not, ◌&&◌, ◌||◌, cond, Option, Some, None, is_some, refl, ap, sym, ◌∙◌, subst, inl, inr, arith, ℤ, pos}
+use Rattle.std.proofs.Common.{◌≡◌, ◌≢◌, ℕ, zero, suc, eqb, nat_lt, List, [], ◌∷◌, length, Bool, true, false, ◌&&◌, Option, Some, None, refl, ap, sym, ◌∙◌, subst, inl, inr, arith, ℤ, pos}
 use Rattle.std.specs.Prelude.{take, IfSome}
 use Rattle.std.specs.List.{fold, range_with_len}
-use Rattle.std.specs.Option.{ForSome, option_map, option_map_or}
-use Rattle.std.proofs.lemmas.Bool.{eq-eqb, eqb-true, ne_eqb, cond_both}
+use Rattle.std.specs.Option.{ForSome, option_map}
+use Rattle.std.proofs.lemmas.Bool.{eq-eqb, eqb-true, ne_eqb}
 use Rattle.tbl_kinds.specs.Buffers.{Buffer}
-use Rattle.tbl_kinds.specs.Drawer.{is_full_for}
 use Rattle.tbl_kinds.specs.Blocks.{Stored}
 use Rattle.tbl_kinds.specs.StoreSteps.{stored_at, MayGive}
 use Rattle.tbl_kinds.specs.StoreCalls.{StoreCall, restore}
 use Rattle.tbl_kinds.specs.TableFiles.{TableFile}
-use Rattle.tbl_model.specs.State.{State, Load, Table, Handle, Tables, Dump, quiet, requested, filled}
-use Rattle.tbl_model.specs.Tables.{table_at, is_quiet, rows_where}
-use Rattle.tbl_model.specs.TableSteps.{is_checked, locker, handle_at, last_image, put, set_time, set_file, filled_with, end_dump, new_table, base, new_handle}
+use Rattle.tbl_model.specs.State.{State, Table, Handle, requested}
+use Rattle.tbl_model.specs.Tables.{table_at, rows_where}
+use Rattle.tbl_model.specs.TableSteps.{handle_at, last_image, put, set_time, set_file, filled_with, base, new_table, new_handle}
 use Rattle.tbl_model.specs.Effects.{Effect, answered}
 use Rattle.tbl_model.specs.Given.{Given, verdict_at}
 use Rattle.tbl_model.specs.Telemetry.{is_good}
-use Rattle.tbl_model.specs.Pending.{is_pending}
-use Rattle.tbl_model.specs.Refusals.{image_refusal, file_refusal, update_refusal}
+use Rattle.tbl_model.specs.Refusals.{image_refusal, file_refusal}
 use Rattle.tbl_model.specs.Validations.{marked}
 use Rattle.tbl_model.specs.AppLoads.{file_image}
-use Rattle.tbl_model.specs.Management.{Done, nothing_done, with_validation, then_validate, with_update, then_update, with_fill, then_fill, all_done, is_requested, manage_answer, pending_status}
-use Rattle.tbl_model.specs.Dumps.{Ended, end_by, then_end, dumps_ended, housekeeping_effect, is_filled}
+use Rattle.tbl_model.specs.Dumps.{dumps_ended, housekeeping_effect, is_filled}
 use Rattle.tbl_model.specs.Sharing.{give_up, give_up_if, without_handles_of, ended_app}
 use Rattle.tbl_model.specs.AppBlocks.{has_size}
 use Rattle.tbl_model.specs.Registration.{register_effect}
@@ -30,87 +27,30 @@ use Rattle.tbl_model.specs.StoreNotes.{MayGoOn, Tells, IsNoteOf}
 use Rattle.tbl_model.specs.Dispatch.{effect_of}
 use Rattle.tbl_model.specs.Counts.{is_reset}
 use Rattle.tbl_model.specs.Whole.{asks_address, asks_end, asks_removal, is_exit}
-use Rattle.tbl_kinds.specs.declared.entry.Answer.{Answer}
 use Rattle.tbl_kinds.specs.declared.note.BankNote.{BankNote}
 use Rattle.tbl_kinds.specs.declared.request.Actor.{Actor}
 use Rattle.tbl_kinds.specs.declared.request.Actor.TheVariants.{Ground, App}
 use Rattle.tbl_kinds.specs.declared.request.Request.{Request}
 use Rattle.tbl_kinds.specs.declared.request.Request.TheVariants as ask
-use Rattle.tbl_kinds.specs.declared.status.TheConstants.Status.{SUCCESS, INFO_UPDATED, INFO_TABLE_LOCKED, INFO_STOPPED, INFO_UPDATE_PENDING, INFO_VALIDATION_PENDING, INFO_DUMP_PENDING, ERR_VALIDATION_FAILED}
-use Rattle.tbl_model.proofs.RefusalLaws.{is_refusal, image_taken, file_taken, load_taken, update_taken, edit_taken}
+use Rattle.tbl_kinds.specs.declared.status.TheConstants.Status.{SUCCESS, INFO_STOPPED}
+use Rattle.tbl_model.proofs.RefusalLaws.{image_taken, file_taken, load_taken, update_taken, edit_taken}
+use Rattle.tbl_model.proofs.RefusalAnswers.{is_refusal}
 use Rattle.tbl_model.specs.Fit.{AreFit}
 use Rattle.tbl_laws.proofs.Rows.{within}
 use Rattle.tbl_laws.proofs.Fits.{was}
-use Rattle.tbl_laws.proofs.Changes.{with_found, either, validated}
 use Rattle.tbl_laws.proofs.GivingUp.{fewer_handles, given_up, left, no_handle, owned_by_others}
 use Rattle.tbl_laws.proofs.Ordinary.{free_place}
-use Rattle.tbl_laws.proofs.Pins.{AreLoaded, Keeps, stays_keeps, unpinned_set, release_keeps, add_keeps, put_keeps, unseen_keeps, then_keeps, file_keeps, close_keeps, mark_keeps, patched_sized, stays_goes_on}
+use Rattle.tbl_laws.proofs.Pins.{AreLoaded, Keeps, stays_keeps, unpinned_set, release_keeps, add_keeps, put_keeps, unseen_keeps, then_keeps, stays_goes_on}
+use Rattle.tbl_laws.proofs.PinsLoaded.{file_keeps, close_keeps, mark_keeps, patched_sized}
 use Rattle.tbl_laws.proofs.PinsKept.{update_keeps, give_up_keeps, leave_keeps, put_alone_keeps}
 use Rattle.tbl_laws.proofs.Fair.{IsPlain, Fair, fair_keeps, fair_plain, fair_refused, fair_anew, no_stop, pin_fair, back_fair, granted}
-use Rattle.tbl_laws.proofs.Cases.{OfEffect, Commands, by_command, by_file, by_start, by_register, by_load_image, by_load_file, by_app_validate, by_update, by_manage, by_get_status, by_get, by_read, by_release, by_share, by_unregister, by_dump_to_buffer, by_edit, by_info, by_notify, by_exit, CallsStore, by_delete, by_cds_register, by_cds_copy, by_cds_restore, by_cds_delete, Copies, Begins}
-
--- a load that is about to go active is open
-pub open_checked : (t : Table) → is_checked t ≡ true → is_some t.load ≡ true
-open_checked t checked = by t.load checked where
-  by : (load : Option Load) → option_map_or (λ (l : Load). l.checked) load false ≡ true → is_some load ≡ true
-  by None is = absurd (cc is)
-  by (Some l) is = refl
-
--- ---- Manage
-
-module _ (n : ℕ) (row : ℕ) (given : Given) where
-  validate_keeps : (active : Bool) (d : Done) → Keeps d.state.tables (then_validate row active given d).state.tables
-  validate_keeps active d = with_found n row given (λ e. Keeps d.state.tables e.state.tables) d _ (table_at d.state.tables row) refl (stays_keeps d.state.tables) (λ t there.
-      either n row given (λ e. Keeps d.state.tables e.state.tables) (not (is_pending row active d.state.pending)) d (with_validation row active (verdict_at (length d.questions) given) d t) (stays_keeps d.state.tables) (λ _. by active))
-    where
-      by : (a : Bool) → Keeps d.state.tables (marked row a (verdict_at (length d.questions) given) d.state.tables)
-      by true = stays_keeps d.state.tables
-      by false = mark_keeps d.state.tables row (is_good (verdict_at (length d.questions) given))
-
-  then_update_keeps : (d : Done) → AreFit n d.state → Keeps d.state.tables (then_update row d).state.tables
-  then_update_keeps d fit = with_found n row given (λ e. Keeps d.state.tables e.state.tables) d _ (table_at d.state.tables row) refl (stays_keeps d.state.tables) (λ t there. by t there (update_refusal d.state.tables row t) refl) where
-    by : (t : Table) → table_at d.state.tables row ≡ Some t → (r : Option Answer) → update_refusal d.state.tables row t ≡ r → Keeps d.state.tables (cond (is_some r) d (with_update row d t)).state.tables
-    by t there (Some answer) is = stays_keeps d.state.tables
-    by t there None is =
-        let taken = update_taken d.state.tables row t is in
-        update_keeps d.state.tables row t d.state.seconds d.state.sub there taken.1 (open_checked t ((was n d.state fit row t there).checked taken.0))
-
-  fill_keeps : (d : Done) → Keeps d.state.tables (then_fill row d).state.tables
-  fill_keeps d = with_found n row given (λ e. Keeps d.state.tables e.state.tables) d _ (table_at d.state.tables row) refl (stays_keeps d.state.tables) (λ t there.
-      either n row given (λ e. Keeps d.state.tables e.state.tables) (not (is_requested t.dump)) d (with_fill row d) (stays_keeps d.state.tables) (λ _. unseen_keeps d.state.tables row (λ u. record u { dump = filled_with (last_image u) u.dump }) (λ u. refl) (λ u. refl)))
-
-  pub manage_keeps : (s : State) → AreFit n s → Keeps s.tables (all_done s given row).state.tables
-  manage_keeps s fit =
-      let one = then_validate row true given (nothing_done s) in
-      let two = then_validate row false given one in
-      let three = then_update row two in
-      then_keeps s.tables one.state.tables _ (validate_keeps true (nothing_done s)) (then_keeps one.state.tables two.state.tables _ (validate_keeps false one)
-      (then_keeps two.state.tables three.state.tables _ (then_update_keeps two (validated n row given false one (validated n row given true (nothing_done s) fit))) (fill_keeps three)))
-
--- the answer of Manage isn't that of a stop
-manage_goes_on : (tables : Tables) (row : ℕ) (t : Table) → eqb (manage_answer tables row t).status.0 INFO_STOPPED.0 ≡ false
-manage_goes_on tables row t = by t.activation (locker tables row t) where
-  by : (b : Bool) (lock : Option ℕ) → eqb (cond {A = Answer} (not b) (record { status = SUCCESS; detail = 0 }) (option_map_or (λ handle. record { status = INFO_TABLE_LOCKED; detail = handle }) lock (record { status = INFO_UPDATED; detail = 0 }))).status.0 INFO_STOPPED.0 ≡ false
-  by false lock = refl
-  by true None = refl
-  by true (Some handle) = refl
-
--- ---- housekeeping
-
-ends_keep : (rows : List ℕ) (e : Ended) → Keeps e.state.tables (fold then_end e rows).state.tables
-ends_keep [] e = stays_keeps e.state.tables
-ends_keep (row ∷ rows) e = then_keeps e.state.tables (then_end e row).state.tables _ (one (table_at e.state.tables row)) (ends_keep rows (then_end e row)) where
-  over : Keeps e.state.tables (end_dump row e.state.tables)
-  over = unseen_keeps e.state.tables row (λ u. record u { dump = quiet }) (λ u. refl) (λ u. refl)
-
-  dump : (name : List ℕ) (d : Dump) → Keeps e.state.tables (end_by e row name d).state.tables
-  dump name quiet = stays_keeps e.state.tables
-  dump name (requested file) = stays_keeps e.state.tables
-  dump name (filled file image) = cond_both (is_full_for e.state.drawer file) _ _ (λ (d : Ended). Keeps e.state.tables d.state.tables) (λ _. over) (λ _. over)
-
-  one : (found : Option Table) → Keeps e.state.tables (option_map_or (λ (t : Table). end_by e row t.name t.dump) found e).state.tables
-  one None = stays_keeps e.state.tables
-  one (Some t) = dump t.name t.dump
+use Rattle.tbl_laws.proofs.Cases.{OfEffect, CallsStore, Copies, Begins}
+use Rattle.tbl_laws.proofs.AddressCases.{by_get, by_read, by_release}
+use Rattle.tbl_laws.proofs.ApplicationCases.{by_register, by_start, by_share, by_unregister, by_info, by_notify, by_exit}
+use Rattle.tbl_laws.proofs.LoadCases.{by_load_image, by_load_file, by_app_validate, by_update, by_manage, by_get_status, by_dump_to_buffer, by_edit}
+use Rattle.tbl_laws.proofs.BlockCases.{by_delete, by_cds_register, by_cds_copy, by_cds_restore, by_cds_delete}
+use Rattle.tbl_laws.proofs.CommandCases.{Commands, by_command, by_file}
+use Rattle.tbl_laws.proofs.FairManage.{ends_keep, judged_goes_on, manage_goes_on, manage_keeps, open_checked, status_goes_on}
 
 module _ (s : State) (n : ℕ) (fit : AreFit n s) where
   -- ---- the ground
@@ -186,18 +126,6 @@ module _ (s : State) (n : ℕ) (fit : AreFit n s) where
   marks : (row : ℕ) (active : Bool) (verdict : ℤ) → Keeps s.tables (marked row active verdict s.tables)
   marks row true verdict = stays_keeps s.tables
   marks row false verdict = mark_keeps s.tables row (is_good verdict)
-
-  judged_goes_on : (b : Bool) → eqb (cond b SUCCESS ERR_VALIDATION_FAILED).0 INFO_STOPPED.0 ≡ false
-  judged_goes_on true = refl
-  judged_goes_on false = refl
-
-  status_goes_on : (pending : List (ℕ × Bool)) (row : ℕ) (t : Table) → eqb (pending_status pending row t).0 INFO_STOPPED.0 ≡ false
-  status_goes_on pending row t = by (is_pending row true pending || is_pending row false pending) t.activation (is_quiet t.dump) where
-    by : (validation activation idle : Bool) → eqb (cond validation INFO_VALIDATION_PENDING (cond activation INFO_UPDATE_PENDING (cond (not idle) INFO_DUMP_PENDING SUCCESS))).0 INFO_STOPPED.0 ≡ false
-    by true activation idle = refl
-    by false true idle = refl
-    by false false true = refl
-    by false false false = refl
 
   -- ---- all requests
 

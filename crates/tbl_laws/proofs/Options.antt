@@ -12,8 +12,9 @@ use Rattle.tbl_model.specs.Subjects.{if_file}
 use Rattle.tbl_model.specs.AppLoads.{by_function, activate_effect, from_file, file_image, load_image_of, load_file_of}
 use Rattle.tbl_model.specs.Activations.{updated_effect}
 use Rattle.tbl_model.specs.Management.{manage_answer, all_done, managed_effect}
-use Rattle.tbl_model.proofs.RefusalLaws.{is_refusal, image_refused, closed_refused, file_refused, update_refused}
-use Rattle.tbl_laws.proofs.Cases.{by_ladder, by_load_ladder, by_verdict, by_file_of}
+use Rattle.tbl_model.proofs.RefusalAnswers.{is_refusal, image_refused, closed_refused, file_refused, update_refused}
+use Rattle.tbl_laws.proofs.Cases.{by_ladder, by_load_ladder, by_file_of}
+use Rattle.tbl_laws.proofs.LoadCases.{by_verdict}
 use Rattle.tbl_laws.proofs.Descents.{Descends, stays_descends, image_descends, file_descends, update_descends, managed_descends}
 
 -- ---- each table that an effect leaves descends from the one before

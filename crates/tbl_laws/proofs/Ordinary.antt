@@ -13,7 +13,7 @@ use Rattle.std.proofs.lemmas.Option.{same_Some, get_or_from_slice_get}
 use Rattle.tbl_kinds.specs.Free.{least_free}
 use Rattle.tbl_model.specs.State.{State, Table, Handle, Tables, Dump, quiet, requested, filled, no_tables}
 use Rattle.tbl_model.specs.Tables.{table_at, rows_where}
-use Rattle.tbl_model.specs.TableSteps.{is_that, end_dump, handle_at, Access, drop_before, with_table, with_handle, new_table, new_handle, filled_with, last_image, with_first, added}
+use Rattle.tbl_model.specs.TableSteps.{is_that, end_dump, handle_at, Access, drop_before, with_table, with_handle, filled_with, last_image, new_table, new_handle, with_first, added}
 use Rattle.tbl_model.specs.Effects.{Effect}
 use Rattle.tbl_model.specs.Given.{Given, verdict_at}
 use Rattle.tbl_model.specs.Pending.{is_pending}
@@ -22,14 +22,20 @@ use Rattle.tbl_model.specs.Validations.{first_pending}
 use Rattle.tbl_model.specs.Dumps.{Ended, end_by, then_end, is_filled, dumps_ended, housekeeping_effect}
 use Rattle.tbl_model.specs.Boots.{boot}
 use Rattle.tbl_model.specs.Dispatch.{effect_of}
-use Rattle.tbl_model.proofs.RefusalLaws.{is_refusal, load_taken, validation_taken, update_taken, plan_taken}
+use Rattle.tbl_model.proofs.RefusalLaws.{load_taken, validation_taken, update_taken, plan_taken}
+use Rattle.tbl_model.proofs.RefusalAnswers.{is_refusal}
 use Rattle.tbl_model.specs.Sharing.{is_notice}
 use Rattle.tbl_model.specs.Fit.{FitAt, AreFit}
 use Rattle.tbl_laws.proofs.Rows.{nothing_at, set_row}
 use Rattle.tbl_laws.proofs.Fits.{load_there, fit_on, fit_same, was, unseen, mark}
 use Rattle.tbl_laws.proofs.Changes.{grown, told, imaged, imaged_from, loads, pends, asks, aborts, updates, managed, goes_on, put_alone, noticed}
 use Rattle.tbl_laws.proofs.GivingUp.{kept_with, given_up, fewer_handles, exited, still_live}
-use Rattle.tbl_laws.proofs.Cases.{OfEffect, Leads, Commands, by_command, by_file, by_start, by_register, by_load_image, by_load_file, by_app_validate, by_update, by_manage, by_get_status, by_get, by_read, by_release, by_share, by_unregister, by_dump_to_buffer, by_edit, by_info, by_notify, by_exit, CallsStore, by_delete, by_cds_register, by_cds_copy, by_cds_restore, by_cds_delete, Copies}
+use Rattle.tbl_laws.proofs.Cases.{OfEffect, Leads, CallsStore, Copies}
+use Rattle.tbl_laws.proofs.AddressCases.{by_get, by_read, by_release}
+use Rattle.tbl_laws.proofs.ApplicationCases.{by_register, by_start, by_share, by_unregister, by_info, by_notify, by_exit}
+use Rattle.tbl_laws.proofs.LoadCases.{by_load_image, by_load_file, by_app_validate, by_update, by_manage, by_get_status, by_dump_to_buffer, by_edit}
+use Rattle.tbl_laws.proofs.BlockCases.{by_delete, by_cds_register, by_cds_copy, by_cds_restore, by_cds_delete}
+use Rattle.tbl_laws.proofs.CommandCases.{Commands, by_command, by_file}
 use Rattle.tbl_kinds.specs.declared.note.BankNote.{BankNote}
 use Rattle.tbl_kinds.specs.declared.request.Actor.{Actor}
 use Rattle.tbl_kinds.specs.declared.request.Actor.TheVariants.{Ground, App}

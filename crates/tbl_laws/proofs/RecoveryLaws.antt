@@ -1,5 +1,5 @@
 -- Recovery: after a reset at any moment a critical table begins with the image of its last completed copy, or with one whose copy broke off.
-use Rattle.std.proofs.Common.{◌≡◌, ◌≢◌, ℕ, eqb, List, [], ◌∷◌, suc, length, take, true, false, cond, replicate, Option, Some, None, is_some, refl, sym, ap, ◌∙◌, inl, inr, subst, arith}
+use Rattle.std.proofs.Common.{◌≡◌, ℕ, eqb, List, [], ◌∷◌, suc, length, take, true, false, cond, replicate, Option, Some, None, is_some, refl, sym, ap, ◌∙◌, inl, inr, subst, arith}
 use Rattle.std.specs.Prelude.{◌-◌, ◌≤◌, ◌<◌, slice_get, slice_set, IsSome, Contains, ◌⊎◌, nat_le, option_and_then}
 use Rattle.std.proofs.lemmas.Bool.{eq-eqb}
 use Rattle.std.proofs.lemmas.Bool.Decides.{nat_tests}

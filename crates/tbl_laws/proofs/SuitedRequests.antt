@@ -21,7 +21,7 @@ use Rattle.tbl_model.specs.AppBlocks.{faulted, any_of, renewal, new_slot, has_si
 use Rattle.tbl_model.specs.Boots.{stopped}
 use Rattle.tbl_model.specs.Dumps.{dumps_ended, housekeeping_effect}
 use Rattle.tbl_model.specs.Dispatch.{effect_of}
-use Rattle.tbl_model.proofs.RefusalLaws.{is_refusal}
+use Rattle.tbl_model.proofs.RefusalAnswers.{is_refusal}
 use Rattle.tbl_kinds.specs.declared.block.BlockKind.{BlockKind}
 use Rattle.tbl_kinds.specs.declared.block.BlockKind.TheVariants.{Table as of_table, App as of_app}
 use Rattle.tbl_kinds.specs.declared.entry.Entry.{Entry}
@@ -34,7 +34,12 @@ use Rattle.tbl_kinds.specs.declared.request.Request.TheVariants as ask
 use Rattle.tbl_kinds.specs.declared.status.TheConstants.Status.{SUCCESS}
 use Rattle.tbl_session.specs.Backed.{AreSingle}
 use Rattle.tbl_laws.proofs.Calls.{SuitAll, app_renewal_suits, table_renewal_suits, app_delete_suits, table_delete_suits}
-use Rattle.tbl_laws.proofs.Cases.{OfEffect, Commands, by_command, by_file, by_start, by_new, by_share, by_unregister, by_load_image, by_load_file, by_app_validate, by_update, by_manage, by_get_status, by_get, by_read, by_release, by_dump_to_buffer, by_edit, by_info, by_notify, by_exit, makes_block, copies_block, restores_block, deletes_block, Copies}
+use Rattle.tbl_laws.proofs.Cases.{OfEffect, Copies}
+use Rattle.tbl_laws.proofs.AddressCases.{by_get, by_read, by_release}
+use Rattle.tbl_laws.proofs.ApplicationCases.{by_new, by_start, by_share, by_unregister, by_info, by_notify, by_exit}
+use Rattle.tbl_laws.proofs.LoadCases.{by_load_image, by_load_file, by_app_validate, by_update, by_manage, by_get_status, by_dump_to_buffer, by_edit}
+use Rattle.tbl_laws.proofs.BlockCases.{makes_block, copies_block, restores_block, deletes_block}
+use Rattle.tbl_laws.proofs.CommandCases.{Commands, by_command, by_file}
 
 -- a block that is newly made is only written
 renewal_writes : (kind : BlockKind) (name : List ℕ) (size : ℕ) (old : Option ℕ) → writes (renewal kind name size old) ≡ renewal kind name size old

@@ -24,7 +24,8 @@ use Rattle.tbl_kinds.specs.declared.request.Request.{Request}
 use Rattle.tbl_kinds.specs.declared.request.Request.TheVariants as ask
 use Rattle.tbl_kinds.specs.declared.status.TheConstants.Status.{SUCCESS}
 use Rattle.tbl_model.specs.Fit.{AreFit}
-use Rattle.tbl_laws.proofs.Cases.{OfEffect, by_read}
+use Rattle.tbl_laws.proofs.Cases.{OfEffect}
+use Rattle.tbl_laws.proofs.AddressCases.{by_read}
 use Rattle.tbl_laws.proofs.Ordinary.{IsOrdinary, fit_at_first, ordinary}
 use Rattle.tbl_laws.proofs.Fair.{Spares, Gets, Stays, Fair, gets_none, ends_none}
 use Rattle.tbl_laws.proofs.FairRequests.{request_fair}
