@@ -5,6 +5,7 @@ ghost use Rattle.access_desc.specs.Steps.{at_place, changed_at, has, new_handle,
 
 use crate::handle_view::HandleView;
 use crate::pins::{put, rows_without_pins};
+use crate::places::{first_free, first_old_pin, first_pin, number, number_from};
 use crate::row_pins::RowPins;
 use std::alloc::{AllocError, Global};
 use std::marker::Model;
@@ -31,56 +32,6 @@ impl Model for Handles {
     ghost view = { λ h. h.places.items };
 
     ghost invariant = { λ h. AreKept h.places.items h.rows.items };
-}
-
-/// The first place that is free.
-fn first_free(places: &[Option<HandleView>]) -> Option<usize>
-    ensures least { result ≡ position is_none places.now }
-    ensures within { IfSome result (λ n. n < length places.now) }
-{
-    places.iter().position(|place| place.is_none())
-}
-
-/// The first place of a handle that pins an image of this row's table.
-fn first_pin(places: &[Option<HandleView>], row: u8) -> Option<usize>
-    ensures least { result ≡ position (has (pins row)) places.now }
-    ensures within { IfSome result (λ n. n < length places.now) }
-{
-    places
-        .iter()
-        .position(|place| place.is_some_and(|handle| handle.pins(row)))
-}
-
-/// The first place of a handle that pins an image of this row's table which isn't the last.
-fn first_old_pin(places: &[Option<HandleView>], row: u8) -> Option<usize>
-    ensures least { result ≡ position (has (pins_old row)) places.now }
-    ensures within { IfSome result (λ n. n < length places.now) }
-{
-    places
-        .iter()
-        .position(|place| place.is_some_and(|handle| handle.pins_old(row)))
-}
-
-/// A place as the number of its handle.
-fn number(place: Option<usize>) -> Option<u16>
-    requires { IfSome place (λ n. n < 2 ^ 16) }
-    ensures { result ≡ place }
-{
-    match place {
-        Some(n) => Some(n as u16),
-        None => None,
-    }
-}
-
-/// A place as the number of its handle, if the places are counted from this one on.
-fn number_from(start: usize, place: Option<usize>) -> Option<u16>
-    requires { IfSome place (λ n. start + n < 2 ^ 16) }
-    ensures { result ≡ option_map (λ n. start + n) place }
-{
-    match place {
-        Some(n) => Some((start + n) as u16),
-        None => None,
-    }
 }
 
 fn place_after_new_image(place: Option<HandleView>, row: u8) -> Option<HandleView>

@@ -4,6 +4,7 @@
 mod handle_view;
 mod handles;
 mod pins;
+mod places;
 mod row_pins;
 
 pub use handle_view::HandleView;
