@@ -1,8 +1,8 @@
 -- What a write to one of two banks leaves of the pair.
-use Rattle.std.proofs.Common.{◌≡◌, ◌⊎◌, inl, inr, ℕ, ◌+◌, ◌-◌, ◌<◌, ◌≤◌, ◌==◌, List, [], ◌∷◌, ◌++◌, length, take, drop, get_or, Bool, true, false, refl, sym, ◌∙◌, ap, subst, arith, length-append}
-use Rattle.std.proofs.Math.Seq.{take-append-add, take-add, get_or-append_seam}
-use Rattle.std.proofs.lemmas.List.{length-take, take-take, take_at, drop-take, append_assoc}
-use Rattle.tbl_kinds.specs.Numbers.{piece, patched, byte_at}
+use Rattle.std.proofs.Common.{◌≡◌, ◌⊎◌, inl, inr, ℕ, ◌+◌, ◌-◌, ◌≤◌, ◌==◌, List, ◌++◌, length, take, drop, Bool, true, false, refl, sym, ◌∙◌, ap, subst, arith, length-append}
+use Rattle.std.proofs.Math.Seq.{take-append-add, take-add}
+use Rattle.std.proofs.lemmas.List.{length-take, take-take, take_at, drop-take}
+use Rattle.tbl_kinds.specs.Numbers.{piece, patched}
 use Rattle.tbl_outside.specs.Bank.{Torn}
 use Rattle.tbl_outside.proofs.Pieces.{length-piece, torn_same, byte_behind}
 use Rattle.bank_mirror.specs.Pairs.{stale, is_stale, pair_of}
@@ -42,14 +42,6 @@ front-patched size at bytes others fits within =
     ∙ take-append-add (take at bytes ++ others) (drop stop bytes) (size - stop)
     ∙ ap (λ (l : List ℕ). (take at bytes ++ others) ++ l) (sym (drop-take stop (size - stop) bytes) ∙ ap (λ n. drop stop (take n bytes)) there)
     ∙ ap (λ (l : List ℕ). (l ++ others) ++ drop stop (take size bytes)) (sym (take-take at size bytes (omega arith)))
-
--- the write of the mark leaves the front, and is read again
-pub mark_written : (size mark : ℕ) (second : List ℕ) → size < length second → byte_at size (patched second size (mark ∷ [])) ≡ mark
-mark_written size mark second within =
-    let front : length (take size second) ≡ size = simp length-take (omega arith) in
-    ap (λ (l : List ℕ). get_or l size 0) (append_assoc (take size second) (mark ∷ []) (drop (size + 1) second))
-    ∙ ap (λ n. get_or (take size second ++ mark ∷ drop (size + 1) second) n 0) (sym front)
-    ∙ get_or-append_seam (take size second) mark (drop (size + 1) second) 0
 
 -- ---- what an image of one bank beside the other is together
 

@@ -7,9 +7,8 @@ use Rattle.tbl_outside.specs.Counts.{Counted}
 use Rattle.tbl_outside.proofs.Counts.{Rose-since, Rose-until}
 use Rattle.bank_mirror.specs.declared.in_use.InUse.{InUse}
 use Rattle.bank_mirror.specs.declared.in_use.InUse.TheVariants.{Both, FirstOut, SecondOut, Unread}
-use Rattle.bank_mirror.specs.declared.in_use.Alone.TheVariants.{First, Second}
 use Rattle.bank_mirror.specs.Pairs.{Pair}
-use Rattle.bank_mirror.specs.Counts.{FirstFailed, SecondFailed, OneFailed, OneStopped, SameStops, BothStill, IsSince, GoesOn, MayFail, WriteCounted, CopyBroke}
+use Rattle.bank_mirror.specs.Counts.{FirstFailed, SecondFailed, OneFailed, OneStopped, SameStops, BothStill, IsSince, GoesOn, MayFail, WriteCounted}
 use Rattle.bank_mirror.specs.BanksInUse.{IsExcused}
 use Rattle.bank_mirror.specs.declared.opening.OpenFault.{OpenFault}
 use Rattle.bank_mirror.specs.declared.opening.OpenFault.TheVariants.{Fault, Stopped as OpenStopped, Memory, Blank}
@@ -141,17 +140,6 @@ module _ {A B : Type 0} (a : Ghosts A) (b : Ghosts B) where
   excused_since mark_failed opening mid new SecondOut since (inr (inl stopped)) = inr (inl (one_stops opening mid new since stopped))
   excused_since mark_failed opening mid new SecondOut since (inr (inr mark)) = inr (inr mark)
   excused_since mark_failed opening mid new Unread since both = (first_fails opening mid new since both.0, second_fails opening mid new since both.1)
-
-  -- what the write of a copy counted, since a moment before it
-  pub copy_broke-first : (old mid new : Pair A B) (written : Written) → GoesOn a b old mid → Counted a.faults a.stops mid.first new.first written → CopyBroke a b Second (old.first, old.second) new written
-  copy_broke-first old mid new Done goes counted = tt
-  copy_broke-first old mid new Failed goes counted = Rose-since _ _ _ goes.counts.first_faults counted.0
-  copy_broke-first old mid new Stopped goes counted = inl (Rose-since _ _ _ goes.counts.first_stops counted.0)
-
-  pub copy_broke-second : (old mid new : Pair A B) (written : Written) → GoesOn a b old mid → Counted b.faults b.stops mid.second new.second written → CopyBroke a b First (old.first, old.second) new written
-  copy_broke-second old mid new Done goes counted = tt
-  copy_broke-second old mid new Failed goes counted = Rose-since _ _ _ goes.counts.second_faults counted.0
-  copy_broke-second old mid new Stopped goes counted = inr (Rose-since _ _ _ goes.counts.second_stops counted.0)
 
   -- what an opening counted since a moment of it, it counted since it began
   pub calls_counted : (opening : A × B) (mid new : Pair A B) (fault : OpenFault) → IsSince a b opening mid → CallsCounted a b (mid.first, mid.second) new fault → CallsCounted a b opening new fault

@@ -74,10 +74,6 @@ directory-front_at bytes n e =
 pub directory-front : (bytes : List ℕ) → directory_of (piece 0 directory_len bytes) ≡ directory_of bytes
 directory-front bytes = directory-front_at bytes slot_count refl
 
--- two images that begin alike tell one directory
-pub same_directory : (a b : List ℕ) → piece 0 directory_len a ≡ piece 0 directory_len b → directory_of a ≡ directory_of b
-same_directory a b e = sym (directory-front a) ∙ ap directory_of e ∙ directory-front b
-
 -- ---- each block is right
 
 -- what holds of each element and of one more

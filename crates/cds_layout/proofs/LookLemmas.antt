@@ -3,7 +3,7 @@ use Rattle.std.proofs.Common.{◌≡◌, ◌≢◌, ℕ, List, ◌++◌, Option,
 use Rattle.tbl_outside.specs.BankCalls.{BankCall, Asks}
 use Rattle.tbl_outside.specs.Counts.{Rose}
 use Rattle.tbl_outside.specs.declared.bank.Bank.{Ghosts}
-use Rattle.tbl_outside.proofs.BankCalls.{asks_then, asks_no_more}
+use Rattle.tbl_outside.proofs.BankCalls.{asks_then}
 use Rattle.tbl_outside.proofs.Moments.{goes_on, started}
 use Rattle.tbl_kinds.specs.declared.block.Block.{Block}
 use Rattle.cds_layout.specs.Fronts.{IsFront, WasRead}
@@ -39,13 +39,6 @@ module _ {B : Type 0} (g : Ghosts B) where
       reads = reads_on old mid new ending first.reads next.reads;
       bank_calls = λ told. asked_on old mid new calls more ending (first.bank_calls told) (next.bank_calls told);
     }
-
-  -- the last calls weren't made
-  pub looks_no_more : (old new : B) (calls more : List BankCall) → Looks g old new calls BankFailed → Looks g old new (calls ++ more) BankFailed
-  looks_no_more old new calls more broke = record {
-    reads = broke.reads;
-    bank_calls = λ told. asks_no_more g.tells_calls g.calls old new calls more (broke.bank_calls told);
-  }
 
   -- no call was made
   pub no_look : (bank : B) (ending : Ending) → ending ≢ BankFailed → ((image : List ℕ) → g.tells_moments → g.left_since bank (g.clock bank) image → image ≡ g.now bank) → OnlyReads g bank bank ending

@@ -197,11 +197,6 @@ told_err : (P : RestoreFault → Type 0) (tells : Type 0) (r : Result Unit Resto
 told_err P tells (Ok x) told p = tt
 told_err P tells (Err e) told p = p told
 
--- what a failed read reports, in other words
-pub if_err_so : {P Q : RestoreFault → Type 0} (r : Result Unit RestoreFault) → IfErr r P → ((fault : RestoreFault) → P fault → Q fault) → IfErr r Q
-if_err_so (Ok x) err so = tt
-if_err_so (Err fault) err so = so fault err
-
 -- a block whose copies were all completed comes back
 pub comes_back : {B : Type 0} (tells : Type 0) (now : B → List ℕ) (slots : List (Option Slot)) (bank : B) (n : ℕ) (s : Slot) → slot_at slots n ≡ Some s → (into : List ℕ) (r : Result Unit RestoreFault)
     → OnOk r (tells → held_in (now bank) n s.block ≡ Some into) → IfErr r (λ fault. tells → TellsTorn (now bank) n s.block fault)

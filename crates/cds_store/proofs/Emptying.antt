@@ -10,7 +10,7 @@ use Rattle.tbl_outside.proofs.Pieces.{byte_before, piece_before, piece_behind}
 use Rattle.cds_layout.specs.Entries.{gate_open, gate_at}
 use Rattle.cds_layout.specs.Directory.{is_live, live_mark, is_first_version}
 use Rattle.cds_store.specs.Boots.{is_dead, HasMark, AllShut, AreZeros, IsCleared, IsEmptied, Clears}
-use Rattle.cds_store.proofs.Bytes.{read_again, front}
+use Rattle.cds_store.proofs.Bytes.{read_again}
 use Rattle.cds_store.proofs.Frames.{gate_stays}
 use Rattle.cds_store.proofs.DirectoryEntries.{dead_is_emptied}
 
@@ -44,9 +44,6 @@ first_torn old image there torn = elim (cases_Bool (byte_at 0 image == 0x43)) [
 -- a write after the first byte
 pub still_dead : (at count : ℕ) (old image : List ℕ) → 0 < at → Torn at count old image → is_dead old ≡ true → is_dead image ≡ true
 still_dead at count old image behind torn dead = ap (λ b. not (b == 0x43)) (byte_before at count old image 0 torn behind) ∙ dead
-
-pub mark_there : (old new : List ℕ) → bank_size ≤ length old → new ≡ patched old 1 (0x44 ∷ 0x53 ∷ 0x32 ∷ 0 ∷ 0 ∷ 0 ∷ 0 ∷ 0 ∷ 0 ∷ 0 ∷ 0 ∷ 0 ∷ 0 ∷ 0 ∷ 0 ∷ []) → HasMark new
-mark_there old new fits is = front new (0x44 ∷ 0x53 ∷ 0x32 ∷ 0 ∷ 0 ∷ 0 ∷ 0 ∷ 0 ∷ 0 ∷ 0 ∷ 0 ∷ 0 ∷ 0 ∷ 0 ∷ 0 ∷ []) 1 15 3 (read_again old new 1 15 _ refl (omega (arith, fits)) is) (omega arith)
 
 pub mark_stays : (old image : List ℕ) (count : ℕ) → Torn 16 count old image → HasMark old → HasMark image
 mark_stays old image count torn mark = piece_before 16 count old image 1 3 torn (omega arith) ∙ mark
@@ -86,11 +83,4 @@ cleared old new fits is torn mark shut = record {
   where
     first_is : (bytes : List ℕ) → take 1 bytes ≡ 0x43 ∷ [] → byte_at 0 bytes ≡ 0x43
     first_is [] one = absurd (cc one)
-    first_is (x ∷ xs) one = cc one
-
-pub closed_first : (old new : List ℕ) → bank_size ≤ length old → new ≡ patched old 0 (0 ∷ []) → is_dead new ≡ true
-closed_first old new fits is = ap (λ b. not (b == 0x43)) (first_is new (read_again old new 0 1 (0 ∷ []) refl (omega (arith, fits)) is))
-  where
-    first_is : (bytes : List ℕ) → take 1 bytes ≡ 0 ∷ [] → byte_at 0 bytes ≡ 0
-    first_is [] one = refl
     first_is (x ∷ xs) one = cc one

@@ -1,5 +1,5 @@
 -- A reservation on the slots is one on the blocks that they represent.
-use Rattle.std.proofs.Common.{◌≡◌, inl, inr, ℕ, List, [], ◌∷◌, map, slice_set, Bool, true, false, not, ◌&&◌, Option, Some, None, is_some, is_none, IsSome, refl, sym, ◌∙◌, ap, subst}
+use Rattle.std.proofs.Common.{◌≡◌, inl, inr, ℕ, List, [], ◌∷◌, map, slice_set, Bool, true, false, not, ◌&&◌, Option, Some, None, is_some, is_none, refl, sym, ◌∙◌, ap, subst}
 use Rattle.std.specs.Option.{option_map}
 use Rattle.std.proofs.lemmas.Bool.{and_parts}
 use Rattle.std.proofs.lemmas.List.{map-set, set-get_or}
@@ -7,18 +7,15 @@ use Rattle.std.proofs.lemmas.List.Quantifiers.{position-Some}
 use Rattle.tbl_kinds.proofs.PositionLaws.{position-map}
 use Rattle.tbl_kinds.specs.Places.{place}
 use Rattle.tbl_kinds.specs.Blocks.{Stored, Store as Blocks}
-use Rattle.tbl_kinds.specs.StoreCalls.{reserve, CanBreak}
+use Rattle.tbl_kinds.specs.StoreCalls.{reserve}
 use Rattle.tbl_kinds.specs.StoreSteps.{is_of, is_doubtful_of, is_open_of, stored_at, doubtful_of, open_of, taken, freed, has_room, closed, made, reserved, reserve_broken, in_doubt}
 use Rattle.tbl_kinds.specs.Free.{least_free}
 use Rattle.tbl_kinds.specs.declared.block.Block.{Block}
 use Rattle.tbl_kinds.specs.declared.block.BlockKind.{BlockKind}
 use Rattle.tbl_outside.specs.declared.bank.Bank.{Ghosts}
-use Rattle.cds_store.specs.Calls.{IfBank, is_gate, is_old}
 use Rattle.cds_store.specs.Moments.{ShowsIn, LeavesIn, MakeLeaves}
 use Rattle.cds_store.specs.Slots.{is_open_slot, is_doubtful_slot, open_slot, doubtful_slot, without_slot, blocks_of, both, room_in}
 use Rattle.cds_store.specs.StoreBlocks.{StandsFor, kept, slot_of, with_new, closing, broken_at}
-use Rattle.cds_store.specs.declared.fault.ReserveFault.{ReserveFault}
-use Rattle.cds_store.specs.declared.fault.ReserveFault.TheVariants.{NoRoom, Bank}
 use Rattle.cds_store.specs.declared.slot.Slot.{Slot}
 
 -- ---- lists of places
@@ -159,11 +156,3 @@ module _ {B : Type 0} (g : Ghosts B) (kind : BlockKind) (name : List ℕ) (size 
         (make_leaves kind name size n at old blocks (old_is blocks stands) (room_for blocks stands))
 
 -- ---- where a reservation can break off
-
-pub can_break : {B : Type 0} (tells : Type 0) (now : B → List ℕ) (kind : BlockKind) (name : List ℕ) (size : ℕ) (slots : List (Option Slot)) (bank : B) (booted : Bool) (fault : ReserveFault)
-    → IfBank fault (λ fault. is_old fault ≡ true → (is_gate fault ≡ true) × IsSome (doubtful_slot kind name slots))
-    → IfBank fault (λ fault. (blocks : Blocks) → StandsFor tells now (record { slots = slots; bank = bank; booted = booted }) blocks → CanBreak (is_gate fault) (is_old fault) (reserve kind name size) blocks)
-can_break tells now kind name size slots bank booted NoRoom flags = tt
-can_break tells now kind name size slots bank booted (Bank fault) flags = λ blocks stands set.
-    let both_set = flags set in
-    (both_set.0, subst IsSome (doubtful_same kind name slots blocks stands.slots) both_set.1)

@@ -74,9 +74,6 @@ module _ (n : ℕ) (slots : List (Option Slot)) (blocks : Blocks) (old image : L
   no_block None is = refl
   no_block (Some b) is = absurd (cc (sym new.free ∙ stands_slot old slots blocks stands n b is))
 
-  new_agrees : (k : ℕ) (s : Slot) → k ≢ n → slot_at slots k ≡ Some s → agree block s.block ≡ true
-  new_agrees k s other there = new.agrees k s there
-
   -- while its entry is written, nothing has changed: its gate is closed
   pub prepared : Torn (tail_place n) tail_len old image → MatchesBlocks image slots blocks
   prepared torn =

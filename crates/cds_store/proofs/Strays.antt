@@ -98,15 +98,6 @@ pub unmoved : {B : Type 0} (g : Ghosts B) (bank : B) (IsLeft : List ℕ → Type
     → LeavesOnly g.clock g.left_since bank bank IsLeft
 unmoved g bank IsLeft only here = started g.clock g.left_since bank IsLeft (λ image left. subst IsLeft (sym (only image left)) here)
 
-pub tidied_start : (old : List ℕ) → is_live old ≡ true → Tidied old old 0
-tidied_start old live = record {
-  same = same_store old;
-  live = live;
-  version = refl;
-  shut = λ n lt within none. absurd (omega (arith, lt));
-  rest = λ n le within. refl;
-}
-
 -- the gate is closed, or has a block of the directory
 pub tidied_skip : (old now : List ℕ) (k : ℕ) → k < slot_count → (is_open old k && is_none (slice_index_or (directory_of old) k None)) ≡ false → Tidied old now k → Tidied old now (k + 1)
 tidied_skip old now k within fine so_far = record {

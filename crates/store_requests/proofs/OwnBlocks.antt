@@ -49,9 +49,6 @@ module _ {B : Type 0} (g : Ghosts B) (kept : StoreParts B) (s : State) (app slot
       let b = by_place s name (stored_at s.store slot) size effect (ap (is_own_slot name) (sym at_slot) ∙ own) (subst (IsOpenOf size) at_slot sized) in
       (b.0, b.1, ap (λ o. by_app s o (λ app_name. by_block s app_name (stored_at s.store slot) effect)) runs ∙ b.2)
 
-  pub own_missing : is_own_slot name (slot_at kept.slots slot) ≡ false → if_block s app slot effect ≡ answered s ERR_CDS_NOT_FOUND 0
-  own_missing own = ap (λ o. by_app s o (λ app_name. by_block s app_name (stored_at s.store slot) effect)) runs ∙ no_place s name (stored_at s.store slot) effect (ap (is_own_slot name) (sym at_slot) ∙ own)
-
 -- ---- the requests
 
 turned : (b : Bool) (x y : Effect) → cond (not b) x y ≡ cond b y x

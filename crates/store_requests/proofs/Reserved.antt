@@ -76,12 +76,6 @@ module _ (s : State) (name : List ℕ) (size : ℕ) (n : BankNote) (old any : Op
   pub no_room : has_size size (option_and_then (stored_at s.store) old) ≡ false → has_room size any s.store ≡ false → block_effect s name size n old ≡ answered s ERR_CDS_NO_ROOM 0
   no_room other room = refused (has_size size (option_and_then (stored_at s.store) old)) (has_room size (any_of App name s.store) s.store) exists (answered s ERR_CDS_NO_ROOM 0) made other (ap (λ o. has_room size o s.store) is ∙ room)
 
--- the block that is there has this size
-pub exists_means : (s : State) (name : List ℕ) (size : ℕ) (n : BankNote) (slot : ℕ) → has_size size (stored_at s.store slot) ≡ true → block_effect s name size n (Some slot) ≡ answered s INFO_CDS_EXISTS slot
-exists_means s name size n slot same =
-    ap (λ b. if b then answered s INFO_CDS_EXISTS slot else (if not (has_room size (any_of App name s.store) s.store) then answered s ERR_CDS_NO_ROOM 0
-    else then_call (renewal App name size (Some slot)) n faulted (answered s SUCCESS (new_slot App name (Some slot) s.store)))) same
-
 -- the block of a name is the open one, or else the doubtful one
 pub any_is : (s : State) (name : List ℕ) (old : Option ℕ) → open_of App name s.store ≡ old → any_of App name s.store ≡ option_or old (doubtful_of App name s.store)
 any_is s name old is = ap (λ o. option_or o (doubtful_of App name s.store)) is

@@ -1,7 +1,7 @@
 -- How a file is made longer, piece by piece.
 use Rattle.std.proofs.Common.{◌≡◌, ℕ, ◌+◌, ◌-◌, ◌≤◌, List, [], ◌∷◌, ◌++◌, length, take, drop, replicate, refl, sym, ◌∙◌, ap, arith, length-append}
 use Rattle.std.proofs.lemmas.List.{append-nil, append_assoc, length-replicate, take_all, take_at, drop_all, replicate-append-replicate}
-use Rattle.tbl_adapters.specs.Files.{padded, written, Spoiled, lengthened}
+use Rattle.tbl_adapters.specs.Files.{padded, written, Spoiled}
 use Rattle.tbl_adapters.proofs.Padding.{padded-whole, take-padded}
 
 -- so many zeros stand after the bytes that were there, and no more than are wanted
@@ -10,14 +10,6 @@ pub record Growing (size len : ℕ) (old now : List ℕ) : Type 0 where
   pub long : len ≡ length old + more
   pub within : more ≤ size - length old
   pub grown : now ≡ old ++ replicate more 0
-
-pub growing_first : (size len : ℕ) (old now : List ℕ) → len ≡ length old → now ≡ old → Growing size len old now
-growing_first size len old now long same = record {
-  more = 0;
-  long = omega (arith, long);
-  within = omega arith;
-  grown = same ∙ sym (append-nil old);
-}
 
 length-grown : (size len : ℕ) (old now : List ℕ) → Growing size len old now → length now ≡ len
 length-grown size len old now g = omega (arith, ap length g.grown, length-append old (replicate g.more 0), length-replicate {A = ℕ} g.more 0, g.long)
@@ -39,11 +31,6 @@ growing_more size len count old now next zeros g fits are is = record {
       ∙ append_assoc old (replicate g.more 0) zeros
       ∙ ap (λ (l : List ℕ). old ++ l) (ap (λ (l : List ℕ). replicate g.more 0 ++ l) are ∙ replicate-append-replicate g.more count 0);
 }
-
-pub grown_whole : (size len : ℕ) (old now : List ℕ) → Growing size len old now → size ≤ len → now ≡ lengthened size old
-grown_whole size len old now g le =
-    let all : g.more ≡ size - length old = omega (arith, g.long, g.within, le) in
-    g.grown ∙ ap (λ (n : ℕ). old ++ replicate n 0) all
 
 pub kept_first : (old now : List ℕ) → now ≡ old → padded (length old) now ≡ old
 kept_first old now same = ap (padded (length old)) same ∙ padded-whole old (length old) (omega arith) ∙ take_all (length old) old (omega arith)

@@ -21,9 +21,6 @@ use Rattle.tbl_c.specs.Serving.{Serving, second_of, Said, WillSay}
 -- ---- what the service represents
 
 module _ (g : Ghosts Breaking) where
-  pub on_still : (s : Serving) → StandsOn g s s
-  on_still s = record { stands = λ opening past was. was; after = λ past was. was; bank = refl; ended = refl; played = refl }
-
   pub on_on : (a b c : Serving) → StandsOn g a b → StandsOn g b c → StandsOn g a c
   on_on a b c first second = record {
     stands = λ opening past was. second.stands opening past (first.stands opening past was);
@@ -86,9 +83,6 @@ module _ (number : ℕ) (check : Spoken) (old new : List (Option (KitEntry Spoke
   -- what has the number is this function
   pub stands_there : (P : Spoken → Type 0) → P check → ForSome (entry_at new number) (λ entry. P entry.check)
   stands_there P holds = subst (λ (found : Option (KitEntry Spoken)). ForSome found (λ entry. P entry.check)) (sym hands.this) (stood P holds (entry_at old number))
-
-pub will_say_one : (q : Question) (v : ℤ) (vs : List ℤ) (old new : List (Option (KitEntry Spoken))) → Hands q.number (one_verdict v) old new → WillSay (q ∷ []) (v ∷ vs) new
-will_say_one q v vs old new hands = stands_there q.number (one_verdict v) old new hands (λ check. answer_of check q.image ≡ v) refl
 
 pub will_say_two : (q r : Question) (v w : ℤ) (vs : List ℤ) (old mid new : List (Option (KitEntry Spoken))) → Hands r.number (one_verdict w) old mid → Hands q.number (two_verdicts q.image v w) mid new → WillSay (q ∷ r ∷ []) (v ∷ w ∷ vs) new
 will_say_two q r v w vs old mid new first second = (

@@ -62,17 +62,6 @@ leaves_front old new at reach others fits bytes more =
     leaves_write old new (written_over old at (length others)) refl more
     (subst (Torn at (length others) old.bytes) (sym bytes) (torn_front old.bytes at reach others fits))
 
--- a call that changes no byte
-pub leaves_same : (old new : Banking) → new.bytes ≡ old.bytes → new.past ≡ old.past → LeavesOnly moment MayHaveLeft old new (λ image. image ≡ old.bytes)
-leaves_same old new bytes past =
-    let same : (t : ℕ) (image : List ℕ) → MayHaveLeft new t image → MayHaveLeft old t image = λ t image left. ⊎_elim (λ now. inl (now ∙ bytes)) (λ inside. inr (subst (λ (l : List Passed). IsFromInside (drop t l) image) past inside)) left in
-    record {
-      later = omega (arith, ap length past);
-      each = λ image left. only_bytes old image (same (moment old) image left);
-      adds_only = λ t image le left. inl (same t image left);
-      keeps = λ t image le left. ⊎_elim (λ now. inl (now ∙ sym bytes)) (λ inside. inr (subst (λ (l : List Passed). IsFromInside (drop t l) image) (sym past) inside)) left;
-    }
-
 -- each image from inside a write may have been left
 pub leaves_inside : (old : Banking) (past : List Passed) (at count : ℕ) (image : List ℕ) {bytes : List ℕ} → past ≡ old.past ++ written_over old at count ∷ []
     → Torn at count old.bytes image → (image ≡ bytes) ⊎ IsFromInside (drop (moment old) past) image

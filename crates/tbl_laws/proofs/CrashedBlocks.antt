@@ -1,15 +1,12 @@
 -- The blocks that a reset came over, and those that it left: no two are of one kind and one name.
-use Rattle.std.proofs.Common.{◌≡◌, ℕ, zero, suc, List, [], ◌∷◌, take, true, false, not, Option, Some, None, refl, sym, ap, ◌⊎◌, inl, inr, subst}
+use Rattle.std.proofs.Common.{◌≡◌, ℕ, zero, suc, List, [], ◌∷◌, take, true, false, not, Option, Some, None, refl, ap, ◌⊎◌, inl, inr, subst}
 use Rattle.std.specs.Prelude.{slice_get, IsSome}
 use Rattle.std.proofs.lemmas.Bool.{and_parts}
 use Rattle.std.proofs.lemmas.Option.{same_Some}
-use Rattle.tbl_kinds.specs.Admitted.{Admitted}
 use Rattle.tbl_kinds.specs.Blocks.{Stored, Store}
 use Rattle.tbl_kinds.specs.StoreSteps.{is_of, is_open_of, open_of, stored_at, shown, MayShow, MayGive, Shows}
 use Rattle.tbl_kinds.specs.StoreCalls.{StoreCall, after, after_first}
-use Rattle.tbl_model.specs.State.{State, Tables, first_state}
-use Rattle.tbl_model.specs.StoreNotes.{is_doubtful_at}
-use Rattle.tbl_model.specs.Boots.{session_start}
+use Rattle.tbl_model.specs.State.{State, Tables}
 use Rattle.tbl_model.specs.History.{Run, begins_at, onward, run_from, AreAnswered}
 use Rattle.tbl_session.specs.Crashes.{BreaksTo, DuringCalls, calls_in, UnderWay, AfterCrash}
 use Rattle.tbl_kinds.specs.declared.block.BlockKind.{BlockKind}
@@ -21,7 +18,6 @@ use Rattle.tbl_laws.proofs.Blocks.{Stood, Remain, remain_single, open_stands, bo
 use Rattle.tbl_laws.proofs.Calls.{Suits, SuitAll, does_single, breaks_single}
 use Rattle.tbl_laws.proofs.SuitedRequests.{calls_suit}
 use Rattle.tbl_laws.proofs.BackedLaws.{backed}
-use Rattle.tbl_laws.proofs.BootLaws.{AllOpen, starts}
 
 -- ---- the blocks that a reset came over
 
@@ -93,14 +89,6 @@ shows_remain store left shows = record { each = λ slot b there. of slot b (stor
 pub left_single : (store left : Store) → Shows store left → AreSingle store → AreSingle left
 left_single store left shows single = remain_single store left (shows_remain store left shows) single
 
--- and all are open
-pub left_open : (store left : Store) → Shows store left → AllOpen left
-left_open store left shows slot = by (stored_at store slot) (stored_at left slot) refl (shows.each slot) where
-  by : (found here : Option Stored) → stored_at left slot ≡ here → MayShow found here → is_doubtful_at left slot ≡ false
-  by found None at may = rw at refl
-  by None (Some b) at may = absurd (cc may)
-  by (Some was) (Some b) at may = rw at (ap (λ (x : Stored). x.doubtful) may.0)
-
 -- the one that is left of an open block
 pub record IsLeft (left : Store) (slot : ℕ) (b : Stored) : Type 0 where
   pub found : Stored
@@ -132,15 +120,3 @@ open_found kind name store slot b single there is = by (open_of kind name store)
     where
       is_of_open : (b : Stored) → is_open_of kind name (Some b) ≡ true → is_of kind name b.block ≡ true
       is_of_open b is = (and_parts (is_of kind name b.block) (not b.doubtful) is).0
-
--- a session begins with just these blocks
-pub starts_over : (store left : Store) (kit : List (Option ℕ)) (admit : Admitted) → Shows store left → session_start left kit admit ≡ first_state left kit admit
-starts_over store left kit admit shows = starts left kit admit (left_open store left shows)
-
--- and what it does from there on is a history again
-pub next_history : (opening : State) (entries : List Entry) (place : ℕ) (left : Store) → AfterCrash opening entries place left → IsHistory opening entries
-    → (kit : List (Option ℕ)) (admit : Admitted) (next : List Entry) → AreAnswered (begins_at (session_start left kit admit)) next → IsHistory (session_start left kit admit) next
-next_history opening entries place left crash history kit admit next answered =
-    let shows = crash_shows opening entries place left crash in
-    let single = left_single (blocks_at opening entries place left crash) left shows (crash_single opening entries place left crash history) in
-    record { tables = refl; single = subst (λ (s : State). AreSingle s.store) (sym (starts_over (blocks_at opening entries place left crash) left kit admit shows)) single; answered = answered }

@@ -26,7 +26,6 @@ pub mod HonestRequests
 pub mod KeptEvents
 pub mod Kept
 pub mod VouchedLaws
-pub mod BootLaws
 pub mod Blocks
 pub mod TableBlocks
 pub mod Calls
@@ -36,7 +35,6 @@ pub mod Options
 pub mod Backing
 pub mod BackedRequests
 pub mod BackedLaws
-pub mod CopiedLaws
 pub mod Crashes
 pub mod CompletedLaws
 pub mod SuitedRequests

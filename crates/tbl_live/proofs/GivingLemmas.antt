@@ -26,10 +26,6 @@ pub on_each : {A : Type 0} {P : A → Type 0} → ((a : A) → P a) → (found :
 on_each each (Some a) = each a
 on_each each None = tt
 
--- a step that found no memory gave nothing
-pub no_memory_gives : {B C : Type 0} (pin : Pin) (slice : Buffer) (old new : CoreView B C) (done : Result Unit StepFault) → done ≡ Err NoMemory → StepGives pin slice old new done
-no_memory_gives pin slice old new done is still = subst (λ (d : Result Unit StepFault). OnPlayed d (LastGives old.state old.entries new.entries slice)) (sym is) tt
-
 -- an engine's entry is the last one of all that was played
 pub engine_gives : {B C : Type 0} (past more : List Entry) (old new : EngineView B C) (e : Entry) (done : Result Unit StepFault) (pin : Pin) (slice : Buffer) → more ≡ past ++ e ∷ []
     → (StillPins pin old.gets → (done ≡ Ok tt) × GivesLent old.state slice e) → StepGives pin slice (core_of past old) (core_of more new) done
@@ -55,9 +51,6 @@ played_gives old new slice entries bytes after (Err BootStopped) result is gives
 -- ---- if something was taken
 
 module _ {B C A : Type 0} (ahead : Option A) (pin : A → Pin) (slice : A → Buffer) where
-  pub none_given : (old new : CoreView B C) (done : Result Unit StepFault) → done ≡ Err NoMemory → IfSome ahead (λ (a : A). StepGives (pin a) (slice a) old new done)
-  none_given old new done is = on_each {P = λ (a : A). StepGives (pin a) (slice a) old new done} (λ a. no_memory_gives (pin a) (slice a) old new done is) ahead
-
   pub engine_given : (past more : List Entry) (old new : EngineView B C) (e : Entry) (done : Result Unit StepFault) → more ≡ past ++ e ∷ []
       → IfSome ahead (λ (a : A). StillPins (pin a) old.gets → (done ≡ Ok tt) × GivesLent old.state (slice a) e) → IfSome ahead (λ (a : A). StepGives (pin a) (slice a) (core_of past old) (core_of more new) done)
   engine_given past more old new e done is gives = on_some {P = λ (a : A). StillPins (pin a) old.gets → (done ≡ Ok tt) × GivesLent old.state (slice a) e} {Q = λ (a : A). StepGives (pin a) (slice a) (core_of past old) (core_of more new) done}

@@ -1,17 +1,15 @@
 -- A core that keeps its last entry alone.
-use Rattle.std.proofs.Common.{◌≡◌, ◌≤◌, ◌<◌, ◌+◌, ℕ, false, List, [], ◌∷◌, ◌++◌, map, length, length-append, slice_index_or, Some, None, Result, Ok, Err, refl, sym, ap, ◌∙◌, subst, inl, inr, ⊎_elim, arith}
+use Rattle.std.proofs.Common.{◌≡◌, ◌<◌, ◌+◌, false, List, [], ◌∷◌, ◌++◌, map, length, length-append, slice_index_or, Some, None, Result, Ok, Err, refl, sym, ap, ◌∙◌, subst, arith}
 use Rattle.std.proofs.lemmas.List.{get_or_at, map-append}
 use Rattle.tbl_kinds.specs.declared.entry.Entry.{Entry}
 use Rattle.tbl_kinds.specs.declared.request.Actor.{Actor}
 use Rattle.tbl_kinds.specs.declared.request.Request.{Request}
-use Rattle.tbl_registry.specs.Images.{most_images}
-use Rattle.tbl_registry.specs.declared.pin.Pin.{Pin}
 use Rattle.tbl_outside.specs.declared.bank.Bank.{Ghosts}
 use Rattle.tbl_outside.specs.declared.validator.Validator.{Ghosts as ValidatorGhosts}
 use Rattle.tbl_core.specs.Ended.{OnPlayed}
-use Rattle.tbl_core.specs.Engine.{Steps, Enters, MayStillPin}
+use Rattle.tbl_core.specs.Engine.{Steps, Enters}
 use Rattle.tbl_core.specs.Log.{IsSmall}
-use Rattle.tbl_core.specs.Service.{EngineView, AddsOne, PinsOnward, core_of, IsAfter, IsOfPin, IsLimit, recounted, engine_limit, image_limit}
+use Rattle.tbl_core.specs.Service.{EngineView, AddsOne, PinsOnward, core_of, IsAfter, recounted}
 use Rattle.tbl_core.specs.declared.service.StepFault.{StepFault}
 use Rattle.tbl_core.proofs.Steps.{on_played}
 use Rattle.tbl_core.specs.Stepped.{Stepped}
@@ -20,7 +18,6 @@ use Rattle.tbl_core.specs.declared.service.StepFault.TheVariants.{Memory as NoMe
 use Rattle.tbl_history.specs.Serving.{Continues}
 use Rattle.tbl_history.proofs.Laws.{Laws}
 use Rattle.tbl_live.specs.Lasting.{IsLasting}
-use Rattle.tbl_live.specs.Bounds.{lasting_bound}
 use Rattle.tbl_history.proofs.ServingLemmas.{played_adds, played_continues}
 use Rattle.tbl_live.proofs.StepLemmas.{is_last}
 
@@ -71,20 +68,9 @@ module _ {B C : Type 0} (g : Ghosts B) (v : ValidatorGhosts C) (past : List Entr
     pub lasting_pins : IsAfter past old → OnPlayed result (PinsOnward (core_of past old) (core_of more new))
     lasting_pins was = on_played result (λ d. pins g v past more old new actor request result d was) entered
 
--- a pin of the core may still be one of the engine
-pub still_pin : {B C : Type 0} (past : List Entry) (engine : EngineView B C) (pin : Pin) → IsOfPin pin (core_of past engine) → MayStillPin pin engine
-still_pin past engine pin is = record { within = is.within; image = is.image }
-
 -- the bound on images changes nothing else
 pub still_after_recount : {B C : Type 0} (past : List Entry) (engine : EngineView B C) → IsAfter past engine → IsAfter past (recounted engine)
 still_after_recount past engine after = record { played = after.played; gets = after.gets }
-
--- the limit that it met is reported
-pub limit_told : {B C : Type 0} (past : List Entry) (engine : EngineView B C) (count : ℕ) → IsAfter past engine → IsLimit (recounted engine) count → lasting_bound.full (length past) engine.state.tables count
-limit_told past engine count after is = ⊎_elim
-    (λ (many : (count ≡ engine_limit) × (engine_limit ≤ engine.played)). inl (many.0, let played = after.played in let most = many.1 in omega (arith, played, most)))
-    (λ (many : (count ≡ image_limit) × (image_limit ≤ most_images engine.state.tables)). inr many)
-    is
 
 -- a core that has played nothing
 pub is_first : {B C : Type 0} (items : List (Entry × Unit {0})) (engine : EngineView B C) → items ≡ [] → IsAfter [] engine → IsLasting None (record { past = firsts items; engine = engine })

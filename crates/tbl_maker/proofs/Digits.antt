@@ -1,12 +1,11 @@
 -- Decimal and hexadecimal digits.
-use Rattle.std.proofs.Common.{◌≡◌, ℕ, suc, ◌+◌, ◌*◌, ◌/◌, ◌%◌, ◌<◌, ◌^◌, List, [], ◌∷◌, ◌++◌, true, refl, sym, ap, ◌∙◌, arith, ℤ, pos, negsuc}
+use Rattle.std.proofs.Common.{◌≡◌, ℕ, suc, ◌+◌, ◌/◌, ◌%◌, ◌<◌, ◌^◌, List, [], ◌∷◌, ◌++◌, true, refl, arith, ℤ, pos, negsuc}
 use Rattle.std.specs.Prelude.{unsigned_abs}
 use Rattle.std.specs.List.{AllByRecursion, flat_map}
 use Rattle.std.specs.Fmt.{decimal, signed_decimal, digit_glyph}
 use Rattle.std.proofs.lemmas.Fmt.{decimal_by_steps}
 use Rattle.std.proofs.lemmas.Bool.Decides.{nat_tests}
 use Rattle.tbl_maker.specs.Values.{hex_pair, IsByte}
-use Rattle.tbl_maker.specs.Digits.{IsDigit}
 use Rattle.tbl_maker.proofs.Parting.{All-both}
 
 -- ---- decimal
@@ -64,14 +63,3 @@ hex_agree (x ∷ xs) (y ∷ ys) u bx by e =
     let rest = hex_agree xs ys u bx.1 by.1 others in
     let left : ys ≡ xs ++ rest.0 = rest.1 in
     (rest.0, cc, rest.2)
-
--- two digits and their byte
-pub pair_of_digits : (high low h l : ℕ) → IsDigit high h → IsDigit low l → hex_pair (h * 16 + l) ≡ high ∷ low ∷ []
-pair_of_digits high low h l hd ld =
-    let hs : h < 16 = hd.small in
-    let ls : l < 16 = ld.small in
-    let he : (h * 16 + l) / 16 ≡ h = omega arith in
-    let le : (h * 16 + l) % 16 ≡ l = omega arith in
-    let ha : digit_glyph true ((h * 16 + l) / 16) ≡ high = ap (digit_glyph true) he ∙ sym hd.byte_is in
-    let la : digit_glyph true ((h * 16 + l) % 16) ≡ low = ap (digit_glyph true) le ∙ sym ld.byte_is in
-    cc

@@ -1,30 +1,15 @@
 -- Reading pairs of hexadecimal digits.
-use Rattle.std.proofs.Common.{◌≡◌, ◌≢◌, ℕ, ◌+◌, ◌*◌, ◌<◌, ◌≤◌, List, [], ◌∷◌, ◌++◌, length, get_or, drop, Bool, false, true, subst, ◌/◌, ◌%◌, refl, sym, ap, ◌∙◌, arith, append_assoc}
+use Rattle.std.proofs.Common.{◌≡◌, ◌≢◌, ℕ, ◌+◌, ◌<◌, ◌≤◌, List, [], ◌∷◌, ◌++◌, length, get_or, drop, Bool, false, true, subst, ◌/◌, ◌%◌, refl, sym, ap, ◌∙◌, arith}
 use Rattle.std.specs.Prelude.{◌==◌}
 use Rattle.std.specs.List.{AllByRecursion, flat_map}
 use Rattle.std.specs.Fmt.{digit_glyph}
-use Rattle.std.proofs.lemmas.List.{length-append, append-nil}
-use Rattle.std.proofs.lemmas.Grind.{flat_map-append}
+use Rattle.std.proofs.lemmas.List.{length-append}
 use Rattle.std.proofs.lemmas.Bool.Decides.{nat_tests}
 use Rattle.tbl_maker.specs.Values.{IsByte, IsHexValue, hex_pair}
-use Rattle.tbl_maker.specs.Digits.{IsDigit, IsNoDigit}
+use Rattle.tbl_maker.specs.Digits.{IsNoDigit}
 use Rattle.tbl_maker.specs.Parts.{IsNoHex}
-use Rattle.tbl_maker.proofs.Parting.{All-push, All-after}
-use Rattle.tbl_maker.proofs.Digits.{hex_agree, pair_of_digits}
-
--- one pair more
-pub hex_push : (text : List ℕ) (bytes : List ℕ) (high low h l : ℕ) (others : List ℕ) → text ≡ flat_map hex_pair bytes ++ (high ∷ low ∷ others) → IsDigit high h → IsDigit low l → text ≡ flat_map hex_pair (bytes ++ (h * 16 + l) ∷ []) ++ others
-hex_push text bytes high low h l others is hd ld =
-    let pair : hex_pair (h * 16 + l) ≡ high ∷ low ∷ [] = pair_of_digits high low h l hd ld in
-    let more : flat_map hex_pair (bytes ++ (h * 16 + l) ∷ []) ≡ flat_map hex_pair bytes ++ (high ∷ low ∷ []) =
-    flat_map-append hex_pair bytes ((h * 16 + l) ∷ []) ∙ ap (λ x. flat_map hex_pair bytes ++ x) (append-nil (hex_pair (h * 16 + l)) ∙ pair) in
-    is ∙ sym (append_assoc (flat_map hex_pair bytes) (high ∷ low ∷ []) others) ∙ ap (λ x. x ++ others) (sym more)
-
-pub pair_small : (high low h l : ℕ) → IsDigit high h → IsDigit low l → h * 16 + l < 256
-pair_small high low h l hd ld = omega (arith, hd.small, ld.small)
-
-pub bytes_push : (bytes : List ℕ) (b : ℕ) → AllByRecursion IsByte bytes → b < 256 → AllByRecursion IsByte (bytes ++ b ∷ [])
-bytes_push bytes b all small = All-push IsByte bytes b all small
+use Rattle.tbl_maker.proofs.Parting.{All-after}
+use Rattle.tbl_maker.proofs.Digits.{hex_agree}
 
 -- what hexadecimal values there are after the bytes so far
 after_is : (text bytes rest value : List ℕ) → text ≡ flat_map hex_pair bytes ++ rest → AllByRecursion IsByte bytes → IsHexValue value → text ≡ flat_map hex_pair value → (more : List ℕ) × (value ≡ bytes ++ more) × (rest ≡ flat_map hex_pair more)

@@ -1,24 +1,15 @@
 -- Lines of fields, and their image.
-use Rattle.std.proofs.Common.{◌≡◌, ℕ, ◌+◌, ◌<◌, ◌≤◌, List, [], ◌∷◌, ◌++◌, length, sym, ap, ◌∙◌, arith}
+use Rattle.std.proofs.Common.{◌≡◌, ℕ, ◌+◌, ◌<◌, List, [], ◌∷◌, ◌++◌, length, sym, ap, ◌∙◌, arith}
 use Rattle.std.proofs.lemmas.List.{length-append, append-nil}
 use Rattle.std.proofs.lemmas.Grind.{flat_map-append}
 use Rattle.tbl_maker.specs.Fields.{Field, IsField, field_line, field_bytes, image_of}
 use Rattle.tbl_maker.specs.Lines.{Lacks, IsSplit}
-use Rattle.tbl_maker.specs.Parts.{ReadsField, IsNoField, AddsField, AddsNone}
+use Rattle.tbl_maker.specs.Parts.{ReadsField, IsNoField, AddsNone}
 use Rattle.tbl_maker.proofs.Parting.{one_split, no_split, joined, joined_push}
 use Rattle.tbl_maker.proofs.Values.{some_bytes}
 use Rattle.tbl_maker.proofs.Fields.{line_lacks, field_unique}
 
 -- ---- one line more
-
-pub adds_field : (text line rest bytes old new : List ℕ) (room : ℕ) → IsSplit 10 text line rest → ReadsField line bytes → new ≡ old ++ bytes → length old + length bytes ≤ room → AddsField text rest old new room
-adds_field text line rest bytes old new room split read put fits = record {
-  field = read.field;
-  is_field = read.is_field;
-  text_is = split.parts ∙ ap (λ (l : List ℕ). l ++ 10 ∷ rest) read.line_is;
-  image_is = put ∙ ap (λ l. old ++ l) read.bytes_are;
-  fits = let len : length new ≡ length old + length bytes = ap length put ∙ length-append old bytes in omega (arith, len, fits);
-}
 
 pub adds_no_line : (text : List ℕ) (used room : ℕ) → Lacks 10 text → AddsNone text used room
 adds_no_line text used room lacks f rest h e fits = no_split 10 text (field_line f) rest lacks e

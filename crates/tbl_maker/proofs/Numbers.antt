@@ -1,11 +1,11 @@
 -- Reading numbers: of their texts, and into their types.
 use Rattle.std.proofs.Common.{◌≡◌, ℕ, ◌<◌, ◌^◌, Bool, true, false, Option, Some, None, refl, subst, arith, rules, ℤ, pos, negsuc}
-use Rattle.std.specs.Prelude.{Result, Ok, Err, unsigned_abs, MatchResult, FitsSigned, ◌≤ℤ◌, ◌<ℤ◌, IfNone, IfSome, OnOk}
+use Rattle.std.specs.Prelude.{Result, Ok, Err, MatchResult, FitsSigned, ◌≤ℤ◌, ◌<ℤ◌, IfNone, IfSome, OnOk}
 use Rattle.std.specs.Result.{result_ok}
 use Rattle.std.specs.Int.{w64}
 use Rattle.std.specs.Int.Signed.{mag}
 use Rattle.std.specs.Str.{IsUtf8}
-use Rattle.std.specs.Fmt.{decimal, signed_decimal}
+use Rattle.std.specs.Fmt.{signed_decimal}
 use Rattle.std.proofs.lemmas.Int.{ints}
 use Rattle.std.proofs.lemmas.Str.{IsUtf8-from_ascii}
 use Rattle.std.proofs.lemmas.Fmt.{IsAscii-signed}
@@ -67,11 +67,6 @@ moderate_fits (negsuc n) h = search (arith, ints, rules)
 
 pub signed_utf8 : (z : ℤ) → IsModerate z → IsUtf8 (signed_decimal z)
 signed_utf8 z h = IsUtf8-from_ascii (signed_decimal z) (IsAscii-signed z (mag_small z h))
-
--- a number from 0 on has the digits of its amount
-pub not_negative : (z : ℤ) → pos 0 ≤ℤ z → signed_decimal z ≡ decimal (unsigned_abs z)
-not_negative (pos n) h = refl
-not_negative (negsuc n) h = absurd (omega (arith, ints))
 
 pub below_is : (n limit : ℕ) → n < limit → (pos 0 ≤ℤ pos n) × (pos n <ℤ pos limit)
 below_is n limit h = (omega (arith, ints), omega (arith, ints))

@@ -6,7 +6,7 @@ use Rattle.std.specs.List.{AllByRecursion, list_all}
 use Rattle.std.proofs.lemmas.List.{length-append, append-nil}
 use Rattle.std.proofs.lemmas.List.Sums.{sum_by-append, sum_by-cons}
 use Rattle.std.proofs.lemmas.List.Folds.{list_all-append}
-use Rattle.std.proofs.lemmas.Bool.{and_parts, and_from, leb-true, ltb-true, le-leb, lt-ltb, cases_lt}
+use Rattle.std.proofs.lemmas.Bool.{and_parts, and_from, leb-true, ltb-true, cases_lt}
 use Rattle.std.proofs.lemmas.Fmt.{decimal_injective}
 use Rattle.tbl_maker.specs.Names.{is_field_name}
 use Rattle.tbl_maker.specs.Types.{sign_letter, width_digits, sized_word}
@@ -184,16 +184,6 @@ stops word forms rest piece tail room good is sizes parted lacks none shape righ
 
 pub forms_push : (forms : List Form) (form : Form) → list_all is_form forms ≡ true → is_form form ≡ true → list_all is_form (forms ++ form ∷ []) ≡ true
 forms_push forms form good one = list_all-append is_form forms (form ∷ []) ∙ and_from (list_all is_form forms) (list_all is_form (form ∷ [])) good (and_from (is_form form) true one refl)
-
-pub size_push : (forms : List Form) (form : Form) → shape_size (forms ++ form ∷ []) ≡ shape_size forms + form_size form
-size_push forms form = size_parts forms (form ∷ []) ∙ ap (λ n. shape_size forms + n) (sum_by-cons form_size form [] ∙ omega arith)
-
-pub is_shape_of : (forms : List Form) (form : Form) → list_all is_form forms ≡ true → is_form form ≡ true → shape_size forms + form_size form ≤ 16384 → is_shape (forms ++ form ∷ []) ≡ true
-is_shape_of forms form good one fits =
-    let all = forms_push forms form good one in
-    let some : nat_lt 0 (length (forms ++ form ∷ [])) ≡ true = lt-ltb 0 (length (forms ++ form ∷ [])) (let len : length (forms ++ form ∷ []) ≡ length forms + 1 = length-append forms (form ∷ []) in omega (arith, len)) in
-    let size : nat_le (shape_size (forms ++ form ∷ [])) 16384 ≡ true = le-leb (shape_size (forms ++ form ∷ [])) 16384 (omega (arith, fits, size_push forms form)) in
-    and_from _ _ (and_from _ _ some all) size
 
 -- ---- one word, one shape
 

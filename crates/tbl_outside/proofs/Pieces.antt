@@ -46,14 +46,6 @@ torn_within low at count size old image torn le fits = record {
   same_length = torn.same_length;
 }
 
--- one range broken off twice
-pub torn_again : (at count : ℕ) (old mid image : List ℕ) → Torn at count old mid → Torn at count mid image → Torn at count old image
-torn_again at count old mid image first second = record {
-  before = second.before ∙ first.before;
-  behind = second.behind ∙ first.behind;
-  same_length = second.same_length ∙ first.same_length;
-}
-
 -- the old bytes are an image of the new ones
 pub torn_back : (at count : ℕ) (old image : List ℕ) → Torn at count old image → Torn at count image old
 torn_back at count old image torn = record {

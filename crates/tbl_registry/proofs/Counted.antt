@@ -1,7 +1,6 @@
 -- How many tables and open loads there are, when a row changes.
 use Rattle.std.proofs.Common.{◌≡◌, ◌<◌, ◌≤◌, ◌+◌, ◌-◌, ℕ, List, length, count_by, slice_index_or, slice_set, Bool, true, false, not, is_some, IsSome, Option, Some, None, refl, arith}
 use mir.Val.{bool_byte}
-use Rattle.std.proofs.lemmas.List.Sums.{count_by-le-length}
 use Rattle.tbl_model.specs.State.{Table}
 use Rattle.tbl_model.specs.Tables.{has_load}
 use Rattle.access_desc.specs.declared.handle_view.HandleView.{HandleView}
@@ -11,15 +10,6 @@ use Rattle.tbl_registry.specs.Lent.{one_if}
 use Rattle.tbl_registry.specs.Sound.{IsSound, AreCounted, IsKept}
 use Rattle.tbl_registry.proofs.Places.{count_set, within_places}
 use Rattle.tbl_registry.proofs.Changes.{FoundRow}
-
--- no more than there are rows
-pub few_counted : (rows : List (Option Table)) (counts : Counts) → length rows ≡ 128 → AreCounted rows counts → (counts.tables ≤ 128) × (counts.loads ≤ 128)
-few_counted rows counts all counted =
-    let a = count_by-le-length is_some rows in
-    let b = count_by-le-length has_load rows in
-    let tables = counted.tables in
-    let loads = counted.loads in
-    (omega (arith, a, all, tables), omega (arith, b, all, loads))
 
 counted_set : (rows : List (Option Table)) (n : ℕ) (was new : Option Table) (old counts : Counts) → slice_index_or rows n None ≡ was → n < length rows → AreCounted rows old
     → counts.tables + one_if (is_some was) ≡ old.tables + one_if (is_some new) → counts.loads + one_if (has_load was) ≡ old.loads + one_if (has_load new) → AreCounted (slice_set rows n new) counts

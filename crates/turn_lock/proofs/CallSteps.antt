@@ -1,6 +1,5 @@
 -- The beginning and the end of a lock, and what its calls need of a step.
-use Rattle.std.proofs.Common.{◌≡◌, ◌≢◌, ℕ, zero, suc, ◌+◌, ◌<◌, ◌==◌, ne_eqb, Bool, List, [], ◌∷◌, map, length, Option, Some, refl, sym, ap, ◌∙◌, subst, inl, ⊎_elim, arith}
-use Rattle.std.specs.Prelude.{MatchBool}
+use Rattle.std.proofs.Common.{◌≡◌, ◌≢◌, ℕ, zero, suc, ◌+◌, ◌<◌, ◌==◌, List, [], ◌∷◌, map, length, Option, Some, refl, sym, ap, ◌∙◌, subst, inl, ⊎_elim, arith}
 use Rattle.std.proofs.lemmas.List.{length-replicate}
 use mathlib.Core.Option.{Option as Maybe, some, none, some-injective, some-ne-none}
 use prog.Atomic.{either}
@@ -65,9 +64,6 @@ module _ {T : Type 0} (moves : T → ℕ → T → Type 0) (actors : ℕ) (k : T
   took slots m m' found from seen is idle t =
       let t' : Takes moves (step slots 0 0 1 none) m 0 m' = subst (λ (n : ℕ). Takes moves (step slots 0 0 1 none) m n m') is t in
       subst (λ (z : Seat'). (c : T) × (m' ≡ (taking z.0 c, (0, Some c) ∷ [])) × Knows moves z.0.from z.0.seen c) idle t'
-
-  pub kept_out : (slots : ℕ) (m m' : Seat') (found : ℕ) → found ≢ 0 → Takes moves (step slots 0 0 1 none) m found m' → m' ≡ m
-  kept_out slots m m' found ne t = subst (λ (b : Bool). MatchBool b ((c : T) × (m' ≡ (taking m.0 c, (0, Some c) ∷ [])) × Knows moves m.0.from m.0.seen c) (m' ≡ m)) (ne_eqb found 0 ne) t
 
   -- what was at home comes out
   pub same_value : (xs : List (Option T)) (c value : T) (o : Option T) → get_elem? xs 0 ≡ some (Some c) → get_elem? xs 0 ≡ some o → o ≡ Some value → c ≡ value

@@ -1,17 +1,16 @@
 -- Pending validations can be done still, after what changes tables, the kit and the list.
-use Rattle.std.proofs.Common.{◌≡◌, ◌≢◌, ◌<◌, ◌∙◌, ℕ, List, [], ◌∷◌, ◌++◌, length, Bool, true, false, ◌||◌, cond, slice_index_or, slice_set, replicate, zero, suc, option_map, Option, Some, None, IsSome, is_some, refl, sym, ap, subst, ◌⊎◌, inl, inr, arith}
+use Rattle.std.proofs.Common.{◌≡◌, ◌≢◌, ◌<◌, ℕ, List, [], ◌∷◌, length, Bool, true, false, slice_index_or, option_map, Option, Some, None, IsSome, is_some, refl, sym, inl, inr}
 use Rattle.std.proofs.Common.{ℤ}
 use Rattle.std.specs.Option.{ForSome}
 use Rattle.std.proofs.lemmas.Bool.{cases_eq, cases_lt}
-use Rattle.std.proofs.lemmas.Bool.Decides.{nat_tests}
 use Rattle.std.proofs.lemmas.List.{get_or-set_same, get_or-set_other, get_or_past}
 use Rattle.std.proofs.lemmas.Option.{same_Some}
-use Rattle.tbl_model.specs.State.{Load, Table, Handle, Tables}
+use Rattle.tbl_model.specs.State.{Load, Table, Tables}
 use Rattle.tbl_model.specs.Tables.{table_at}
-use Rattle.tbl_model.specs.TableSteps.{with_table, with_handle, changed, changed_in, set_checked}
+use Rattle.tbl_model.specs.TableSteps.{changed, changed_in, set_checked}
 use Rattle.tbl_model.specs.Telemetry.{is_good}
 use Rattle.tbl_model.specs.Pending.{is_pair, is_pending, without_pair}
-use Rattle.tbl_model.specs.Validations.{marked, first_pending}
+use Rattle.tbl_model.specs.Validations.{marked}
 use Rattle.tbl_outside.specs.declared.validator.KitEntry.{KitEntry}
 use Rattle.validation.specs.Kits.{entry_at}
 use Rattle.tbl_model.specs.Fit.{CanValidate}
@@ -63,25 +62,6 @@ all_keep tables row change P keeps all r = by (table_at tables r) refl
 
 -- ---- the list of pending validations
 
-same_pair : (row r : ℕ) (active a : Bool) → is_pair r a (row, active) ≡ true → (r ≡ row) × (a ≡ active)
-same_pair row r true true is = (let e = is in grind (arith, nat_tests), refl)
-same_pair row r true false is = grind (arith, nat_tests)
-same_pair row r false true is = grind (arith, nat_tests)
-same_pair row r false false is = (let e = is in grind (arith, nat_tests), refl)
-
-pub pending_added : (row r : ℕ) (active a : Bool) (pairs : List (ℕ × Bool)) → is_pending r a (pairs ++ (row, active) ∷ []) ≡ true → (is_pending r a pairs ≡ true) ⊎ ((r ≡ row) × (a ≡ active))
-pending_added row r active a [] is = inr (same_pair row r active a (either _ is))
-  where
-    either : (b : Bool) → (b || false) ≡ true → b ≡ true
-    either true _ = refl
-    either false none = none
-pending_added row r active a (pair ∷ pairs) is = by (is_pair r a pair) refl is (λ rest. pending_added row r active a pairs rest)
-  where
-    by : (b : Bool) → is_pair r a pair ≡ b → (b || is_pending r a (pairs ++ (row, active) ∷ [])) ≡ true
-        → (is_pending r a (pairs ++ (row, active) ∷ []) ≡ true → (is_pending r a pairs ≡ true) ⊎ ((r ≡ row) × (a ≡ active))) → (is_pending r a (pair ∷ pairs) ≡ true) ⊎ ((r ≡ row) × (a ≡ active))
-    by true first _ later = inl (rw first refl)
-    by false first rest later = rw first (later rest)
-
 pub pending_dropped : (row r : ℕ) (active a : Bool) (pairs : List (ℕ × Bool)) → is_pending r a (without_pair row active pairs) ≡ true → is_pending r a pairs ≡ true
 pending_dropped row r active a [] is = is
 pending_dropped row r active a (pair ∷ pairs) is = by (is_pair row active pair) (is_pair r a pair) refl refl (λ later. pending_dropped row r active a pairs later)
@@ -90,15 +70,6 @@ pending_dropped row r active a (pair ∷ pairs) is = by (is_pair row active pair
     by dropped true d h later = rw h refl
     by true false d h later = rw h (later (rw d at is))
     by false false d h later = rw h (later (rw (d, h) at is))
-
--- a pair that was dropped isn't there
-pub pair_gone : (row : ℕ) (active : Bool) (pairs : List (ℕ × Bool)) → is_pending row active (without_pair row active pairs) ≡ false
-pair_gone row active [] = refl
-pair_gone row active (pair ∷ pairs) = by (is_pair row active pair) refl (pair_gone row active pairs)
-  where
-    by : (b : Bool) → is_pair row active pair ≡ b → is_pending row active (without_pair row active pairs) ≡ false → is_pending row active (without_pair row active (pair ∷ pairs)) ≡ false
-    by true is later = rw is later
-    by false is later = rw (is, is) later
 
 -- ---- marks
 
@@ -114,9 +85,6 @@ mark_keeps tables row checked r false = stays_there tables row _ (λ t. CanValid
 pub judged_keeps : (tables : Tables) (row : ℕ) (active : Bool) (verdict : ℤ) (pending : List (ℕ × Bool)) → ArePending tables pending → ArePending (marked row active verdict tables) (without_pair row active pending)
 judged_keeps tables row true verdict pending all = λ r a is. all r a (pending_dropped row r true a pending is)
 judged_keeps tables row false verdict pending all = λ r a is. mark_keeps tables row (is_good verdict) r a (all r a (pending_dropped row r false a pending is))
-
-pub request_keeps : (tables : Tables) (row : ℕ) (active : Bool) (pending : List (ℕ × Bool)) → ArePending tables pending → CanBeJudged tables row active → ArePending tables (pending ++ (row, active) ∷ [])
-request_keeps tables row active pending all can = λ r a is. elim (pending_added row r active a pending is) [ inl was ↦ all r a was | inr new ↦ rw (new.0, new.1) can ]
 
 -- ---- functions
 
@@ -144,9 +112,6 @@ none_pending tables row t pending there requested all = by (is_pending row false
     by false is = refl
     by true is = let no_activation = ((all row false is).1 t there).1.1 in absurd (cc (rw requested at no_activation))
 
-pub dropped_keeps : (tables : Tables) (row : ℕ) (active : Bool) (pending : List (ℕ × Bool)) → ArePending tables pending → ArePending tables (without_pair row active pending)
-dropped_keeps tables row active pending all = λ r a is. all r a (pending_dropped row r active a pending is)
-
 -- ---- loads whose activation is requested
 
 pub loads_keep : (tables : Tables) (row : ℕ) (change : Table → Table) → ((t : Table) → table_at tables row ≡ Some t → HasItsLoad t → HasItsLoad (change t)) → HaveLoads tables → HaveLoads (changed row change tables)
@@ -158,33 +123,6 @@ mark_keeps_loads tables row false verdict all = loads_keep tables row _ (λ t th
 
 -- ---- functions that stay
 
--- a change of one table that leaves its function
-pub functions_stay : (tables : Tables) (row : ℕ) (change : Table → Table) → ((t : Table) → (change t).validator ≡ t.validator) → HaveSameFunctions tables (changed row change tables)
-functions_stay tables row change same r = elim (cases_eq r row) [
-  | inl here ↦ rw here (by (table_at tables row) refl)
-  | inr other ↦ rw (changed_there tables row change r other) refl
-]
-  where
-    by : (o : Option Table) → table_at tables row ≡ o → option_map (λ (t : Table). t.validator) (table_at (changed row change tables) row) ≡ option_map (λ (t : Table). t.validator) (table_at tables row)
-    by None is = rw (nothing_here tables row change is) refl
-    by (Some t) is = rw (changed_here tables row change t is, is) (ap Some (same t))
-
-pub mark_leaves_functions : (tables : Tables) (row : ℕ) (active : Bool) (verdict : ℤ) → HaveSameFunctions tables (marked row active verdict tables)
-mark_leaves_functions tables row true verdict r = refl
-mark_leaves_functions tables row false verdict r = functions_stay tables row _ (λ t. refl) r
-
-followed : (old new : Option Table) (P : ℕ → Type 0) → option_map (λ (t : Table). t.validator) new ≡ option_map (λ (t : Table). t.validator) old → ForSome old (λ t. ForSome t.validator P) → ForSome new (λ t. ForSome t.validator P)
-followed old None P same all = λ t there. absurd (cc there)
-followed None (Some u) P same all = absurd (cc same)
-followed (Some t) (Some u) P same all = λ v there number is.
-    let one : u.validator ≡ t.validator = same_Some u.validator t.validator same in
-    let it : u ≡ v = same_Some u v there in
-    all t refl number (sym one ∙ ap (λ (w : Table). w.validator) it ∙ is)
-
--- they are in the kit still
-pub functions_follow : {C : Type 0} (old new : Tables) (kit : List (Option (KitEntry C))) → HaveSameFunctions old new → HaveFunctions old kit → HaveFunctions new kit
-functions_follow old new kit same all = λ row. followed (table_at old row) (table_at new row) (λ number. IsSome (entry_at kit number)) (same row) (all row)
-
 there_by : (old new : Option Table) → option_map (λ (t : Table). t.validator) new ≡ option_map (λ (t : Table). t.validator) old → IsSome old → IsSome new
 there_by None new same is = absurd (cc is)
 there_by (Some t) None same is = absurd (cc same)
@@ -192,26 +130,6 @@ there_by (Some t) (Some u) same is = cc
 
 pub there_still : (old new : Tables) → HaveSameFunctions old new → (row : ℕ) → IsSome (table_at old row) → IsSome (table_at new row)
 there_still old new same row is = there_by (table_at old row) (table_at new row) (same row) is
-
--- ---- new tables
-
--- what is at a place after something was put at one of them
-at_set : {X : Type 0} (xs : List (Option X)) (n k : ℕ) (x y : X) → slice_index_or (slice_set xs n (Some x)) k None ≡ Some y → (x ≡ y) ⊎ (slice_index_or xs k None ≡ Some y)
-at_set [] n k x y there = absurd (cc there)
-at_set (z ∷ zs) zero zero x y there = inl (same_Some x y there)
-at_set (z ∷ zs) zero (suc k) x y there = inr there
-at_set (z ∷ zs) (suc n) zero x y there = inr there
-at_set (z ∷ zs) (suc n) (suc k) x y there = at_set zs n k x y there
-
--- what every table has, and a new one too
-pub all_have : (P : Table → Type 0) (tables : Tables) (row handle : ℕ) (h : Handle) (t : Table) → P t → ((r : ℕ) → ForSome (table_at tables r) P) → (r : ℕ) → ForSome (table_at (with_handle handle h (with_table row t tables)) r) P
-all_have P tables row handle h t new all r = λ u there. elim (at_set tables.rows row r t u there) [ inl here ↦ subst P here new | inr other ↦ all r u other ]
-
--- if there is no table, every table has it
-pub none_has : (P : Table → Type 0) (n r : ℕ) → ForSome (slice_index_or (replicate {A = Option Table} n None) r None) P
-none_has P zero r = λ t there. absurd (cc there)
-none_has P (suc n) zero = λ t there. absurd (cc there)
-none_has P (suc n) (suc r) = none_has P n r
 
 -- ---- options
 
@@ -223,14 +141,6 @@ some_is (Some x) there = (x, refl)
 pub asked_has_functions : {C : Type 0} (tables : Tables) (old new : List (Option (KitEntry C))) → ((number : ℕ) → IsSome (entry_at old number) → IsSome (entry_at new number)) → HaveFunctions tables old → HaveFunctions tables new
 asked_has_functions tables old new still all = λ row t there number is. still number (all row t there number is)
 
-pub first_is_pending : (pending : List (ℕ × Bool)) (row : ℕ) (active : Bool) → first_pending pending row ≡ Some active → is_pending row active pending ≡ true
-first_is_pending pending row active is = by (is_pending row true pending) (is_pending row false pending) refl refl is
-  where
-    by : (last load : Bool) → is_pending row true pending ≡ last → is_pending row false pending ≡ load → cond last (Some true) (cond load (Some false) None) ≡ Some active → is_pending row active pending ≡ true
-    by true load p q same = rw (← same_Some true active same) p
-    by false true p q same = rw (← same_Some false active same) q
-    by false false p q same = absurd (cc same)
-
 pub is_there : {X : Type 0} (o : Option X) → is_some o ≡ true → IsSome o
 is_there None is = absurd (cc is)
 is_there (Some x) is = cc
@@ -238,8 +148,3 @@ is_there (Some x) is = cc
 pub not_none : {X : Type 0} (o : Option X) → IsSome o → false ≡ is_some o → ⊥
 not_none None is same = absurd (cc is)
 not_none (Some x) is same = absurd (cc same)
-
--- a mark leaves the tables where they are
-pub mark_leaves : (tables : Tables) (row : ℕ) (active : Bool) (verdict : ℤ) (r : ℕ) → IsSome (table_at tables r) → IsSome (table_at (marked row active verdict tables) r)
-mark_leaves tables row true verdict r there = there
-mark_leaves tables row false verdict r there = (stays_there tables row _ (λ t. Unit {0}) (λ t is none. none) r (there, λ t is. tt)).0
