@@ -1,5 +1,5 @@
 -- Which requests are no Reset, and get no address.
-use Rattle.std.proofs.Common.{◌≡◌, ℕ, true, false, Some, None, IsSome, refl}
+use Rattle.std.proofs.Common.{◌≡◌, ℕ, true, false, Option, Some, None, IsSome, refl, sym, subst}
 use Rattle.tbl_model.specs.Counts.{is_reset}
 use Rattle.tbl_model.specs.Commands.{read_command_in}
 use Rattle.tbl_model.specs.Whole.{asks_address}
@@ -43,6 +43,9 @@ told_no_reset request some = refl
 pub app_no_reset : (app : ℕ) (request : Request) → Fits (App app) request → is_reset request ≡ false
 app_no_reset app (ask.Reset kind) fits = absurd (fits.2 tt)
 app_no_reset app request fits = refl
+
+pub told_some : (request : Request) (handle : ℕ) → told_handle request ≡ Some handle → IsSome (told_handle request)
+told_some request handle is = subst (λ (o : Option ℕ). IsSome o) (sym is) refl
 
 pub told_no_command : (request : Request) → IsSome (told_handle request) → read_command_in request ≡ None
 told_no_command (ask.Command packet) some = absurd (cc some)

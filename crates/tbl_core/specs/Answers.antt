@@ -1,18 +1,25 @@
 -- What becomes of an entry, from its request to its packets.
-use Rattle.std.specs.Prelude.{◌≡◌, ◌≤◌, [], Result, Ok, Err}
+use Rattle.std.specs.Prelude.{◌≡◌, ◌≤◌, false, [], None, Result, Ok, Err}
 use Rattle.tbl_kinds.specs.Given.{nothing_given}
-use Rattle.tbl_model.specs.Counts.{Counts}
+use Rattle.tbl_model.specs.Counts.{Counts, is_reset}
 use Rattle.tbl_model.specs.Dispatch.{effect_of}
 use Rattle.tbl_kinds.specs.declared.entry.Entry.{Entry}
 use Rattle.tbl_kinds.specs.declared.entry.Reply.{Reply}
-use Rattle.request_effects.specs.Reports.{Reported}
-use Rattle.request_effects.specs.Effects.{Effect, told_at}
+use Rattle.request_effects.specs.Reports.{Reported, most_events}
+use Rattle.request_effects.specs.Effects.{Effect, HasRoom, IsWithin, told_at}
+use Rattle.store_requests.specs.Called.{NoBoot}
+use Rattle.store_requests.specs.Copying.{told_in}
+use Rattle.tbl_kinds.specs.declared.note.BankNote.{BankNote}
+use Rattle.tbl_kinds.specs.declared.note.Outcome.TheVariants.{Stopped}
+use Rattle.tbl_kinds.specs.declared.request.Actor.{Actor}
+use Rattle.tbl_kinds.specs.declared.request.Request.{Request}
+use Rattle.tbl_model.specs.Commands.{read_command_in}
 use Rattle.reply_packets.specs.Counters.{counts_view}
 use Rattle.reply_packets.specs.Telling.{Tells}
 use Rattle.reply_packets.specs.declared.counters.Counters.{Counters}
 use Rattle.tbl_core.specs.Log.{IsSmall}
 use Rattle.tbl_core.specs.Numbers.{AreCounts}
-use Rattle.tbl_core.specs.Service.{PartsView, parts_view, step_of, AreReady, IsMade}
+use Rattle.tbl_core.specs.Service.{PartsView, Step, parts_view, step_of, AreReady, Makes, Meets, IsMade}
 use Rattle.tbl_core.specs.declared.parts.Parts.{Parts}
 use Rattle.tbl_outside.specs.declared.bank.Bank.{Ghosts}
 use Rattle.tbl_outside.specs.declared.validator.Validator.{Ghosts as ValidatorGhosts}
@@ -75,3 +82,22 @@ pub record Answers {B C : Type 0} (g : Ghosts B) (v : ValidatorGhosts C) (old ne
 abbrev pub Answered : {B C E : Type 0} → Ghosts B → ValidatorGhosts C → Moment B C → Moment B C → Reported → Result Unit E → Type 0
 Answered g v old new report (Ok x) = Answers g v old new report
 Answered g v old new report (Err e) = (new.parts ≡ old.parts) × (new.counts ≡ old.counts)
+
+-- ---- the end of a call
+
+-- it is no command and no reset
+pub record IsPlain (request : Request) : Type 0 where
+  pub no_command : read_command_in request ≡ None
+  pub no_reset : is_reset request ≡ false
+
+-- what was done can be reported, and if a call of the store was stopped, no boot has come after it yet and the service goes on
+pub record CanEnd {B C : Type 0} (held : PartsView B C) (reply : Reply) (report : Reported) (note : BankNote) : Type 0 where
+  pub fresh : note.outcome ≡ Stopped → NoBoot note
+  pub live : note.outcome ≡ Stopped → held.ended ≡ false
+  pub within : IsWithin most_events (told_in reply report note)
+  pub room : HasRoom 0 reply.packets (told_in reply report note)
+
+-- a request of this actor was made, before the boot after a stop of it
+pub record WasMade {B C : Type 0} (g : Ghosts B) (v : ValidatorGhosts C) (step : Step B C) (actor : Actor) (done : Effect) : Type 0 where
+  pub makes : Makes g v step.request step.old step.new done
+  pub meets : Meets g v step (λ s given. effect_of s actor step.request given) done

@@ -4,10 +4,13 @@
 mod asking;
 mod banks;
 mod boots;
+mod commands;
 mod copying;
 mod dispatch;
+mod ending;
 mod engine;
 mod log;
+mod owner_calls;
 mod parts;
 mod playing;
 mod quiet;

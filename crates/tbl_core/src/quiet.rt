@@ -1,11 +1,11 @@
 //! Requests that no packet reports, and that don't call the Critical Data Store.
 
-ghost use Rattle.std.specs.Prelude.{◌≡◌, [], true, false, None, IfOk, OnOk, OnErr};
+ghost use Rattle.std.specs.Prelude.{◌≡◌, [], true, false, Some, None, IfOk, OnOk, OnErr};
 ghost use Rattle.tbl_kinds.specs.Requests.{Fits};
 ghost use Rattle.tbl_kinds.specs.Given.{nothing_given};
 ghost use Rattle.tbl_kinds.specs.declared.request.Actor.TheVariants as by;
 ghost use Rattle.tbl_model.specs.Dispatch.{ground_effect, app_effect};
-ghost use Rattle.request_effects.specs.Requests.{asks_store};
+ghost use Rattle.request_effects.specs.Requests.{asks_store, owners_handle};
 ghost use Rattle.request_effects.specs.Reports.{nothing_reported};
 ghost use Rattle.request_effects.specs.Effects.{quiet_effect};
 ghost use Rattle.tbl_core.specs.Numbers.{AreCounts};
@@ -17,7 +17,7 @@ ghost use Rattle.tbl_core.specs.Requests.{is_uplink, told_handle};
 ghost use Rattle.tbl_core.specs.Service.{MayPlay, Does, parts_view, AreReady};
 ghost use Rattle.tbl_kinds.specs.declared.request.Actor.{Actor};
 
-use crate::dispatch::put_answer;
+use crate::ending::put_answer;
 use crate::parts::Parts;
 use address_requests::{get, read, read_lent, release};
 use desk::{Desk, check};
@@ -85,55 +85,29 @@ impl<B: Bank, C: Validator> Parts<B, C> {
         ensures report { self.new.report ≡ self.old.report }
         ensures err { OnErr result (parts_view self.new ≡ parts_view self.old) }
     {
-        let desk = &mut self.desk;
         match request {
-            Request::Get { handle } => Ok(get(desk, app, *handle)),
+            Request::Get { handle } => Ok(get(&mut self.desk, app, *handle)),
             Request::Read {
                 handle,
                 offset,
                 len,
-            } => read(desk, app, *handle, *offset, *len, bytes),
-            Request::Release { handle } => Ok(release(desk, app, *handle)),
-            Request::GetStatus { handle } => Ok(get_status(desk, app, *handle)),
+            } => read(&mut self.desk, app, *handle, *offset, *len, bytes),
+            Request::Release { handle } => Ok(release(&mut self.desk, app, *handle)),
+            Request::GetStatus { handle } => Ok(get_status(&mut self.desk, app, *handle)),
             Request::GetInfo { name } => {
-                get_info(&mut desk.tables, &desk.apps, app, name, bytes)
-            },
-            Request::DumpToBuffer { handle } => match check(
-                &desk.tables,
-                &desk.apps,
-                app,
-                *handle,
-                true,
-            ) {
-                Ok(row) => Ok(dump_to_buffer(&mut desk.tables, row)),
-                Err(status) => Ok(Answer::plain(status)),
-            },
-            Request::Edit {
-                handle,
-                offset,
-                bytes: piece,
-            } => match check(&desk.tables, &desk.apps, app, *handle, true) {
-                Ok(row) => edit(desk.alloc, &mut desk.tables, row, *offset, piece.bytes()),
-                Err(status) => Ok(Answer::plain(status)),
-            },
-            Request::Notify {
-                handle,
-                msg,
-                code,
-                parameter,
-            } => match check(&desk.tables, &desk.apps, app, *handle, true) {
-                Ok(row) => Ok(notify(&mut desk.tables, row, *msg, *code, *parameter)),
-                Err(status) => Ok(Answer::plain(status)),
-            },
-            Request::Start { name } => Ok(Answer::plain(desk.apps.start(app, name))),
-            Request::Share { name } => Ok(share(&mut desk.tables, &desk.apps, app, name)),
+                get_info(&mut self.desk.tables, &self.desk.apps, app, name, bytes)
+            }
+            Request::Start { name } => Ok(Answer::plain(self.desk.apps.start(app, name))),
+            Request::Share { name } => {
+                Ok(share(&mut self.desk.tables, &self.desk.apps, app, name))
+            }
             Request::Unregister { handle } => {
                 let Desk {
                     tables,
                     pending,
                     apps,
                     ..
-                } = desk;
+                } = &mut self.desk;
                 Ok(unregister(tables, pending, apps, app, *handle))
             }
             Request::Exit => {
@@ -143,9 +117,41 @@ impl<B: Bank, C: Validator> Parts<B, C> {
                     kit,
                     apps,
                     ..
-                } = desk;
+                } = &mut self.desk;
                 Ok(app_exit(tables, pending, kit, apps, app))
             }
+            Request::DumpToBuffer { handle }
+            | Request::Edit { handle, .. }
+            | Request::Notify { handle, .. } => self.owner_user(app, *handle, request),
+            _ => unreachable!(),
+        }
+    }
+
+    /// Does what an application asks for its own table that no packet reports. Only the table's owner may ask it.
+    fn owner_user(&mut self, app: u8, handle: u16, request: &Request) -> Result<Answer, Memory>
+        requires owners { owners_handle request.now ≡ Some handle }
+        requires silent { told_handle request.now ≡ None }
+        requires ready { MayPlay C.Validator (parts_view self.old) }
+        ensures does { IfOk result (λ answer. Does C.Validator 0 (parts_view self.old) (parts_view self.new) (λ s given. app_effect s app request.now given) (quiet_effect answer [])) }
+        ensures report { self.new.report ≡ self.old.report }
+        ensures err { OnErr result (parts_view self.new ≡ parts_view self.old) }
+    {
+        let desk = &mut self.desk;
+        let row = match check(&desk.tables, &desk.apps, app, handle, true) {
+            Ok(row) => row,
+            Err(status) => return Ok(Answer::plain(status)),
+        };
+        match request {
+            Request::DumpToBuffer { .. } => Ok(dump_to_buffer(&mut desk.tables, row)),
+            Request::Edit { offset, bytes, .. } => {
+                edit(desk.alloc, &mut desk.tables, row, *offset, bytes.bytes())
+            }
+            Request::Notify {
+                msg,
+                code,
+                parameter,
+                ..
+            } => Ok(notify(&mut desk.tables, row, *msg, *code, *parameter)),
             _ => unreachable!(),
         }
     }

@@ -10,9 +10,8 @@ ghost use Rattle.tbl_core.specs.Answers.{moment_of, CanAnswer, Answered};
 ghost use Rattle.tbl_model.specs.Counts.{is_reset};
 ghost use Rattle.tbl_core.specs.Service.{Makes, Meets, parts_view, step_of};
 
-use crate::dispatch::answer_in;
 use crate::parts::Parts;
-use reply_packets::{Counters, tell_call};
+use reply_packets::Counters;
 use store_requests::{
     Effect, Registration, cds_copy, cds_delete, cds_register, cds_restore, register,
 };
@@ -58,23 +57,9 @@ impl<B: Bank, C: Validator> Parts<B, C> {
         ensures answered { Answered B.Bank C.Validator (moment_of self.old counters.old entry.old) (moment_of self.new counters.new entry.new) self.new.report result }
     {
         let clock = self.desk.clock;
-        let Entry { request, reply, .. } = entry;
-        let effect = self.app_store_request(app, request)?;
-        let mut note = effect.put(reply);
-        let answer = answer_in(reply);
-        self.boot_if_stopped(&mut note);
-        let packets = &mut reply.packets;
-        let tables = &self.desk.tables;
-        tell_call(
-            packets,
-            clock,
-            counters,
-            tables,
-            request,
-            answer,
-            &self.report,
-        );
-        entry.given = Given::of(note, [None, None]);
+        let effect = self.app_store_request(app, &entry.request)?;
+        let note = effect.put(&mut entry.reply);
+        self.end_call(clock, entry, counters, note);
         Ok(())
     }
 
