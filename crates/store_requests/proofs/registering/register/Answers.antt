@@ -3,7 +3,6 @@ use Rattle.tbl_model.specs.Tables.{is_critical, option_bits}
 use Rattle.tbl_model.specs.TableSteps.{first_image, as_registered}
 use Rattle.tbl_model.specs.CriticalTables.{critical_effect, registered}
 use Rattle.sharing.specs.Registering.{next_row, planned}
-use Rattle.store_requests.proofs.Both.{one}
 use Rattle.store_requests.proofs.Calls.{calls_same}
 use Rattle.std.specs.Prelude.{false}
 use Rattle.tbl_kinds.specs.declared.status.TheConstants.Status.{SUCCESS}
