@@ -1,13 +1,11 @@
 -- The effect of a request as the code has it, and what it represents.
-use Rattle.std.specs.Prelude.{◌≡◌, ℕ, ◌+◌, ◌*◌, ◌≤◌, List, [], ◌∷◌, ◌++◌, length, map, Option, None, Some, IfSome}
+use Rattle.std.specs.Prelude.{◌≡◌, ℕ, ◌+◌, ◌*◌, ◌≤◌, List, [], ◌∷◌, length, Option, None, Some, IfSome}
 use Rattle.std.proofs.Common.{ℤ}
 use Rattle.tbl_kinds.specs.Admitted.{all_admitted}
 use Rattle.tbl_model.specs.State.{State, Tables, first_state}
 use Rattle.tbl_model.specs.Effects as model
 use Rattle.tbl_model.specs.Telemetry.{Question}
 use Rattle.tbl_model.specs.Given.{Given, nothing_given}
-use Rattle.tbl_model.specs.Commands.{ReadCommand}
-use Rattle.tbl_model.specs.Events.{sent_event, command_events}
 use Rattle.tbl_model.specs.Counts.{Told}
 use Rattle.tbl_model.specs.History.{told}
 use Rattle.tbl_model.specs.Fit.{HasCode}
@@ -116,10 +114,6 @@ told_at seconds sub tables request done = told (seen_at seconds sub tables) Grou
 
 abbrev pub seen : Effect → model.Effect
 seen done = without_images done (first_state [] [] all_admitted)
-
--- the events of a command, or of another request, with this effect
-abbrev pub told_events : ReadCommand → Effect → List Event
-told_events command done = command_events command (seen done) ++ map sent_event done.events
 
 abbrev pub listed : Option Event → List Event
 listed None = []

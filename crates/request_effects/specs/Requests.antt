@@ -1,6 +1,5 @@
 -- What a request asks, for what telemetry reports of it.
 use Rattle.std.specs.Prelude.{ℕ, Bool, true, false, Option, Some, None, Result, Ok, Err}
-use Rattle.std.specs.Option.{option_map}
 use Rattle.tbl_kinds.specs.GroundCommands.{GroundCommand, delete_cds}
 use Rattle.tbl_model.specs.Commands as model
 use Rattle.cmd_packets.specs.Views.{command_of, answer_of}
@@ -14,9 +13,6 @@ use Rattle.tbl_kinds.specs.declared.request.Request.TheVariants as ask
 abbrev pub read_of : Result Ground CmdFault → Result GroundCommand Answer
 read_of (Ok command) = Ok (command_of command)
 read_of (Err fault) = Err (answer_of fault)
-
-abbrev pub command_view : Option (Result Ground CmdFault) → model.ReadCommand
-command_view command = option_map read_of command
 
 -- the command that calls the store
 abbrev pub asks_delete : model.ReadCommand → Bool

@@ -3,13 +3,11 @@
 #![tactic(auto)]
 
 mod clock;
-mod effect;
 mod report;
 mod requests;
 mod subjects;
 
 pub use clock::Clock;
-pub use effect::Effect;
 pub use report::Report;
 pub use requests::{ReadCommand, code_of, read};
 pub use subjects::{notice, subject};

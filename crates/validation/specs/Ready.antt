@@ -16,10 +16,6 @@ CanBeJudged tables row active = IsSome (table_at tables row) × ForSome (table_a
 abbrev pub ArePending : Tables → List (ℕ × Bool) → Type 0
 ArePending tables pending = (row : ℕ) (active : Bool) → is_pending row active pending ≡ true → CanBeJudged tables row active
 
--- whatever could be done before a change of the tables can be done after it
-abbrev pub PendingStay : Tables → Tables → Type 0
-PendingStay old new = (pending : List (ℕ × Bool)) → ArePending old pending → ArePending new pending
-
 -- the validation function of each table is in the kit
 abbrev pub HaveFunctions : {C : Type 0} → Tables → List (Option (KitEntry C)) → Type 0
 HaveFunctions tables kit = (row : ℕ) → ForSome (table_at tables row) (λ t. ForSome t.validator (λ number. IsSome (entry_at kit number)))
