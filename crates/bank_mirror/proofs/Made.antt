@@ -5,34 +5,32 @@ use Rattle.tbl_outside.specs.declared.bank.Bank.{Ghosts}
 use Rattle.bank_mirror.specs.declared.mirror.OpenBack.{OpenBack}
 use Rattle.bank_mirror.specs.declared.opening.OpenFault.{OpenFault}
 use Rattle.bank_mirror.specs.declared.opening.Opened.{Opened}
-use Rattle.bank_mirror.specs.Pairs.{Pair, BothTell, bytes_of}
+use Rattle.bank_mirror.specs.Pairs.{Pair, BothTell, bytes_of, pair_of}
 use Rattle.bank_mirror.specs.Moments.{LeftSince, moment}
 use Rattle.bank_mirror.specs.Counts.{GoesOn, IsSince, opening_of}
 use Rattle.bank_mirror.specs.BanksInUse.{IsHeld, IsExcused}
 use Rattle.bank_mirror.specs.Kept.{HoldsOnly}
 use Rattle.bank_mirror.specs.Mirrors.{Mirrored, IsMirror}
-use Rattle.bank_mirror.specs.Begun.{LeavesSince, Begins, HandsBack, Ends, IsMade, unused, returned}
+use Rattle.bank_mirror.specs.Begun.{LeavesSince, Begins, HandsBack, Ends, EndsAsOne, IsMade, unused, returned}
+
+all_ok : {T E P : Type 0} (r : Result T E) → P → IfOk r (λ _. P)
+all_ok (Ok x) fact = fact
+all_ok (Err e) fact = tt
+
+all_err : {T E P : Type 0} (r : Result T E) → P → IfErr r (λ _. P)
+all_err (Ok x) fact = tt
+all_err (Err e) fact = fact
 
 module _ {A B : Type 0} (a : Ghosts A) (b : Ghosts B) where
-  -- what is known of the mirror as it was opened, and of both as they are handed back
-  pub made_ok : (P : Mirrored A B → Type 0) (new : Pair A B) (opened : Result Opened OpenFault) (result : Result (Mirrored A B) (OpenBack A B)) → IsMade new opened result → IfOk opened (λ o. P (unused new o)) → IfOk result P
-  made_ok P new (Ok o) (Ok m) made fact = subst P (sym made) fact
-  made_ok P new (Ok o) (Err back) made fact = tt
-  made_ok P new (Err cause) (Ok m) made fact = absurd made
-  made_ok P new (Err cause) (Err back) made fact = tt
-
-  pub made_err : (P : Pair A B → OpenFault → Type 0) (new : Pair A B) (opened : Result Opened OpenFault) (result : Result (Mirrored A B) (OpenBack A B)) → IsMade new opened result → IfErr opened (P new) → IfErr result (λ back. P (returned back) back.cause)
-  made_err P new (Ok o) (Ok m) made fact = tt
-  made_err P new (Ok o) (Err back) made fact = absurd made
-  made_err P new (Err cause) (Ok m) made fact = tt
-  made_err P new (Err cause) (Err back) made fact = subst (λ (pair : Pair A B). P pair back.cause) (sym made.1) (subst (P new) (sym made.0) fact)
-
   module _ (was new : Pair A B) (first : A) (second : B) (is : was ≡ record { first = first; second = second; past = [] }) where
     opening_is : GoesOn a b was new → opening_of new ≡ (first, second)
     opening_is goes = goes.same_opening ∙ ap opening_of is
 
     counts_since : GoesOn a b was new → IsSince a b (first, second) new
     counts_since goes = subst (λ (pair : Pair A B). IsSince a b (pair.first, pair.second) new) is goes.counts
+
+    sizes : GoesOn a b was new → a.size new.first ≡ a.size first
+    sizes goes = goes.first_size ∙ ap (λ (pair : Pair A B). a.size pair.first) is
 
     leaves_since : (IsSuch : List ℕ → Type 0) → HoldsOnly a b was new IsSuch → LeavesSince a b new IsSuch
     leaves_since IsSuch holds told image left = (holds.moments told).each image (subst (λ (pair : Pair A B). LeftSince a b new (moment pair) image) (sym is) left)
@@ -45,34 +43,46 @@ module _ {A B : Type 0} (a : Ghosts A) (b : Ghosts B) where
       excused = subst (λ (opening : A × B). IsExcused a b o.mark_failed opening new o.in_use) (ap (λ (pair : Pair A B). (pair.first, pair.second)) is ∙ sym (opening_is goes)) excused;
     }
 
-    pub made_ends : (these : List ℕ) (IsSuch : List ℕ → Type 0) (opened : Result Opened OpenFault) (result : Result (Mirrored A B) (OpenBack A B)) → IsMade new opened result
-        → HoldsOnly a b was new IsSuch → IfOk opened (λ o. BothTell a b → bytes_of a b new ≡ these) → Ends a b (first, second) these IsSuch result
-    made_ends these IsSuch opened result made holds bytes = record {
-      begins = made_ok (Begins a b (first, second) these) new opened result made (begins opened bytes);
-      moments = made_ok (λ m. LeavesSince a b m.pair IsSuch) new opened result made (all_ok opened (leaves_since IsSuch holds));
-      back = made_err (λ pair fault. HandsBack a b (first, second) IsSuch pair) new opened result made (all_err opened back);
-      back_moments = made_err (λ pair fault. LeavesSince a b pair IsSuch) new opened result made (all_err opened (leaves_since IsSuch holds));
-    } where
-      all_ok : {P : Type 0} (r : Result Opened OpenFault) → P → IfOk r (λ _. P)
-      all_ok (Ok o) fact = fact
-      all_ok (Err cause) fact = tt
+    module _ (opened : Result Opened OpenFault) (result : Result (Mirrored A B) (OpenBack A B)) (made : IsMade new opened result) where
+      -- what is known of the mirror as it was opened, and of both as they are handed back
+      as_mirror : (P : Mirrored A B → Type 0) → IfOk opened (λ o. P (unused new o)) → IfOk result P
+      as_mirror P = by opened result made where
+        by : (o : Result Opened OpenFault) (r : Result (Mirrored A B) (OpenBack A B)) → IsMade new o r → IfOk o (λ o. P (unused new o)) → IfOk r P
+        by (Ok o) (Ok m) made fact = subst P (sym made) fact
+        by (Ok o) (Err back) made fact = tt
+        by (Err cause) (Ok m) made fact = absurd made
+        by (Err cause) (Err back) made fact = tt
 
-      all_err : {P : Type 0} (r : Result Opened OpenFault) → P → IfErr r (λ _. P)
-      all_err (Ok o) fact = tt
-      all_err (Err cause) fact = fact
+      as_back : (P : Pair A B → OpenFault → Type 0) → IfErr opened (P new) → IfErr result (λ back. P (returned back) back.cause)
+      as_back P = by opened result made where
+        by : (o : Result Opened OpenFault) (r : Result (Mirrored A B) (OpenBack A B)) → IsMade new o r → IfErr o (P new) → IfErr r (λ back. P (returned back) back.cause)
+        by (Ok o) (Ok m) made fact = tt
+        by (Ok o) (Err back) made fact = absurd made
+        by (Err cause) (Ok m) made fact = tt
+        by (Err cause) (Err back) made fact = subst (λ (pair : Pair A B). P pair back.cause) (sym made.1) (subst (P new) (sym made.0) fact)
 
-      begins : (r : Result Opened OpenFault) → IfOk r (λ o. BothTell a b → bytes_of a b new ≡ these) → IfOk r (λ o. Begins a b (first, second) these (unused new o))
-      begins (Ok o) bytes = record {
-        bytes = bytes;
-        opening = opening_is holds.goes_on;
-        faults = refl;
-        size = holds.goes_on.first_size ∙ ap (λ (pair : Pair A B). a.size pair.first) is;
-        counts = counts_since holds.goes_on;
-      }
-      begins (Err cause) bytes = tt
+      -- the same, said of the two banks that were handed in
+      pub made_ok : (P : A × B → Mirrored A B → Type 0) → IfOk opened (λ o. P (was.first, was.second) (unused new o)) → IfOk result (P (first, second))
+      made_ok P fact = as_mirror (P (first, second)) (subst (λ (pair : Pair A B). IfOk opened (λ o. P (pair.first, pair.second) (unused new o))) is fact)
 
-      back : HandsBack a b (first, second) IsSuch new
-      back = record {
-        back_bytes = holds.bytes;
-        back_sizes = (holds.goes_on.first_size ∙ ap (λ (pair : Pair A B). a.size pair.first) is, holds.goes_on.second_size ∙ ap (λ (pair : Pair A B). b.size pair.second) is);
-      }
+      pub made_err : (P : A × B → Pair A B → OpenFault → Type 0) → IfErr opened (P (was.first, was.second) new) → IfErr result (λ back. P (first, second) (returned back) back.cause)
+      made_err P fact = as_back (P (first, second)) (subst (λ (pair : Pair A B). IfErr opened (P (pair.first, pair.second) new)) is fact)
+
+      pub made_ends : (these : A × B → List ℕ) (IsSuch : A × B → List ℕ → Type 0) → HoldsOnly a b was new (IsSuch (was.first, was.second)) → IfOk opened (λ o. BothTell a b → bytes_of a b new ≡ these (was.first, was.second))
+          → Ends a b (first, second) (these (first, second)) (IsSuch (first, second)) result
+      made_ends these IsSuch holds bytes = record {
+        begins = made_ok (λ opening. Begins a b (first, second) (these opening)) (begins opened bytes);
+        moments = made_ok (λ opening m. LeavesSince a b m.pair (IsSuch opening)) (all_ok opened (leaves_since (IsSuch (was.first, was.second)) holds));
+        back = made_err (λ opening pair cause. HandsBack a b (first, second) (IsSuch opening) pair) (all_err opened back);
+        back_moments = made_err (λ opening pair cause. LeavesSince a b pair (IsSuch opening)) (all_err opened (leaves_since (IsSuch (was.first, was.second)) holds));
+      } where
+        begins : (r : Result Opened OpenFault) → IfOk r (λ o. BothTell a b → bytes_of a b new ≡ these (was.first, was.second)) → IfOk r (λ o. Begins a b (first, second) (these (was.first, was.second)) (unused new o))
+        begins (Ok o) bytes = record { bytes = bytes; opening = opening_is holds.goes_on; faults = refl; size = sizes holds.goes_on; counts = counts_since holds.goes_on }
+        begins (Err cause) bytes = tt
+
+        back : HandsBack a b (first, second) (IsSuch (was.first, was.second)) new
+        back = record { back_bytes = holds.bytes; back_sizes = (sizes holds.goes_on, holds.goes_on.second_size ∙ ap (λ (pair : Pair A B). b.size pair.second) is) }
+
+      -- where both read as they did
+      pub made_as_one : HoldsOnly a b was new (λ image. image ≡ bytes_of a b was) → EndsAsOne a b first second result
+      made_as_one holds = made_ends (λ opening. pair_of (a.now opening.0) (b.now opening.1)) (λ opening image. image ≡ pair_of (a.now opening.0) (b.now opening.1)) holds (all_ok opened holds.bytes)

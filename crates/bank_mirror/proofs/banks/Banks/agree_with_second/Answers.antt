@@ -13,13 +13,11 @@ returns-in-Ok-clause-ends g c =
     let b = g.B.Bank in
     let old = c.args.self.now in
     let mid = c.set_mark.new.self in
-    let new = c.agree.new.self in
     let before = c.set_mark.ensures.holds in
-    let marked = c.in-Ok.ensures.sets.marked in
     record {
-      opened = IfOk-weaker c.agree.result _ _ (λ o. opens_since a b (is_marked a b mid) true old mid new o.in_use o.mark_failed before.goes_on (λ told. sym (marked told))) c.agree.ensures.opened;
-      bytes = IfOk-weaker c.agree.result _ _ (λ o _ told. c.agree.ensures.holds.bytes told ∙ pair-stale (a.now mid.first) (b.now mid.second) (marked told) ∙ c.set_mark.ensures.sets.front told) c.agree.ensures.opened;
-      holds = holds_twice a b (λ told. (g.met.A.Bank.tells_both told.0, g.met.B.Bank.tells_both told.1)) old mid new (AsWas a b old.first old.second (front_of a b old)) (λ image. image ≡ bytes_of a b mid) before c.agree.ensures.holds
+      opened = IfOk-weaker c.agree.result _ _ (λ o. opens_since a b (is_marked a b mid) true old mid c.agree.new.self o.in_use o.mark_failed before.goes_on (λ told. sym (c.in-Ok.ensures.sets.marked told))) c.agree.ensures.opened;
+      bytes = IfOk-weaker c.agree.result _ _ (λ o _ told. c.agree.ensures.holds.bytes told ∙ pair-stale (a.now mid.first) (b.now mid.second) (c.in-Ok.ensures.sets.marked told) ∙ c.set_mark.ensures.sets.front told) c.agree.ensures.opened;
+      holds = holds_twice a b (λ told. (g.met.A.Bank.tells_both told.0, g.met.B.Bank.tells_both told.1)) old mid c.agree.new.self (AsWas a b old.first old.second (front_of a b old)) (λ image. image ≡ bytes_of a b mid) before c.agree.ensures.holds
           (λ told image is. ⊎_elim (λ same. inl (is ∙ same)) (λ same. inr (is ∙ same)) (before.bytes told));
     }
 

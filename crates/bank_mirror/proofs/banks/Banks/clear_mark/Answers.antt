@@ -35,20 +35,18 @@ returns-in-Ok g c =
     let old = c.args.self.now in
     let mid = c.write_mark.new.self in
     let new = c.good_one.new.self in
-    let moves = c.write_mark.ensures.moves in
-    let keeps = c.good_one.ensures.reads.keeps in
-    let before = mark_holds a b (λ told. (g.met.A.Bank.tells_both told.0, g.met.B.Bank.tells_both told.1)) old mid c.requires moves in
+    let before = mark_holds a b (λ told. (g.met.A.Bank.tells_both told.0, g.met.B.Bank.tells_both told.1)) old mid c.requires c.write_mark.ensures.moves in
     record {
       opened = record {
         held = subst (λ in_use. IsHeld a b in_use new) (sym c.in_use.ensures) c.in-Ok.ensures.good;
         excuse = subst (IsExcused a b true (old.first, old.second) new) (sym c.in_use.ensures) (mark_excuse a b c.in-Ok.good (old.first, old.second) new);
-        mark = λ is. second_failed_on a b (old.first, old.second) mid new moves.goes_on.counts keeps.goes_on c.in-Failed.ensures.counted.0;
+        mark = λ is. second_failed_on a b (old.first, old.second) mid new c.write_mark.ensures.moves.goes_on.counts c.good_one.ensures.reads.keeps.goes_on c.in-Failed.ensures.counted.0;
         unmarked = λ told fresh. absurd (cc fresh);
         cleared = λ told marked is. absurd (one_is_out a b c.in-Ok.good (sym c.in_use.ensures ∙ is));
       };
       failed = tt;
       holds = holds_twice a b (λ told. (g.met.A.Bank.tells_both told.0, g.met.B.Bank.tells_both told.1)) old mid new (λ image. image ≡ a.now old.first) (λ image. image ≡ bytes_of a b mid)
-          before (keeps_holds a b mid new (λ image. image ≡ bytes_of a b mid) refl keeps) (λ told image is. is ∙ before.bytes told);
+          before (keeps_holds a b mid new (λ image. image ≡ bytes_of a b mid) refl c.good_one.ensures.reads.keeps) (λ told image is. is ∙ before.bytes told);
     }
 
 pub returns-in-Err : goal.returns-in-Err
@@ -58,12 +56,10 @@ returns-in-Err g c =
     let old = c.args.self.now in
     let mid = c.write_mark.new.self in
     let new = c.good_one.new.self in
-    let moves = c.write_mark.ensures.moves in
-    let keeps = c.good_one.ensures.reads.keeps in
-    let before = mark_holds a b (λ told. (g.met.A.Bank.tells_both told.0, g.met.B.Bank.tells_both told.1)) old mid c.requires moves in
+    let before = mark_holds a b (λ told. (g.met.A.Bank.tells_both told.0, g.met.B.Bank.tells_both told.1)) old mid c.requires c.write_mark.ensures.moves in
     record {
       opened = tt;
-      failed = record { counted = inr (second_fails a b (old.first, old.second) mid new moves.goes_on.counts c.in-Err.ensures.reads.failed); last = λ is. c.in-Err.ensures.reads.last };
+      failed = record { counted = inr (second_fails a b (old.first, old.second) mid new c.write_mark.ensures.moves.goes_on.counts c.in-Err.ensures.reads.failed); last = λ is. c.in-Err.ensures.reads.last };
       holds = holds_twice a b (λ told. (g.met.A.Bank.tells_both told.0, g.met.B.Bank.tells_both told.1)) old mid new (λ image. image ≡ a.now old.first) (λ image. image ≡ bytes_of a b mid)
-          before (keeps_holds a b mid new (λ image. image ≡ bytes_of a b mid) refl keeps) (λ told image is. is ∙ before.bytes told);
+          before (keeps_holds a b mid new (λ image. image ≡ bytes_of a b mid) refl c.good_one.ensures.reads.keeps) (λ told image is. is ∙ before.bytes told);
     }

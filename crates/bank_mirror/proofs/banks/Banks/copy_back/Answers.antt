@@ -23,17 +23,16 @@ returns-in-Ok-Done g c =
 
 pub returns-in-Ok-Failed : goal.returns-in-Ok-Failed
 returns-in-Ok-Failed g c =
-    let copies = c.copy_from.ensures.copies in
     record {
       opened = record {
-        held = copies.held;
+        held = c.copy_from.ensures.copies.held;
         excuse = inl (subst (CopyBroke g.A.Bank g.B.Bank Second (c.args.self.now.first, c.args.self.now.second) c.copy_from.new.self) c.in-Ok-Failed.field-0-is c.in-Ok-Failed.ensures.ends.broke);
         mark = λ is. absurd (cc is);
         unmarked = λ told fresh. absurd (cc fresh);
         cleared = λ told marked is. absurd (cc is);
       };
       failed = tt;
-      holds = copies.holds;
+      holds = c.copy_from.ensures.copies.holds;
     }
 
 pub returns-in-Ok-Stopped : goal.returns-in-Ok-Stopped

@@ -21,17 +21,16 @@ returns-in-Ok-Done-clause-ends g c =
 
 pub returns-in-Ok-Failed-clause-ends : goal.returns-in-Ok-Failed-clause-ends
 returns-in-Ok-Failed-clause-ends g c =
-    let copies = c.copy_from.ensures.copies in
     record {
       opened = record {
-        held = copies.held;
+        held = c.copy_from.ensures.copies.held;
         excuse = inl (subst (CopyBroke g.A.Bank g.B.Bank First (c.args.self.now.first, c.args.self.now.second) c.copy_from.new.self) c.in-Ok-Failed.field-0-is c.in-Ok-Failed.ensures.ends.broke);
         mark = λ is. absurd (cc is);
         unmarked = λ told fresh. refl;
         cleared = λ told marked. absurd (cc marked);
       };
       failed = tt;
-      holds = copies.holds;
+      holds = c.copy_from.ensures.copies.holds;
     }
 
 pub returns-in-Ok-Stopped-clause-ends : goal.returns-in-Ok-Stopped-clause-ends

@@ -21,6 +21,5 @@ returns-in-Ok-true-clause-looks g c =
 
 pub returns-in-Ok-false-clause-is : goal.returns-in-Ok-false-clause-is
 returns-in-Ok-false-clause-is g c told =
-    let pair = c.args.self.now in
-    let blank : is_blank (g.A.Bank.now pair.first) ≡ false = sym (c.in-Ok-false.ensures.blank told) ∙ c.in-Ok-false.field-0-test in
-    ap (λ z. z && is_live c.args.live_mark.now (g.B.Bank.now pair.second)) (sym blank)
+    let blank : is_blank (g.A.Bank.now c.args.self.now.first) ≡ false = sym (c.in-Ok-false.ensures.blank told) ∙ c.in-Ok-false.field-0-test in
+    ap (λ z. z && is_live c.args.live_mark.now (g.B.Bank.now c.args.self.now.second)) (sym blank)

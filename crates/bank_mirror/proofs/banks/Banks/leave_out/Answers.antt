@@ -16,10 +16,8 @@ returns-in-First-clause-opened g c =
 
 pub returns-in-First-clause-bytes : goal.returns-in-First-clause-bytes
 returns-in-First-clause-bytes g c told =
-    let a = g.A.Bank in
-    let b = g.B.Bank in
     let old = c.args.self.now in
-    subst (λ alone. bytes_of a b old ≡ shown_by a b alone old) (sym c.in-First.is) (pair-fresh (a.now old.first) (b.now old.second) (c.requires c.in-First.is told))
+    subst (λ alone. bytes_of g.A.Bank g.B.Bank old ≡ shown_by g.A.Bank g.B.Bank alone old) (sym c.in-First.is) (pair-fresh (g.A.Bank.now old.first) (g.B.Bank.now old.second) (c.requires c.in-First.is told))
 
 pub returns-in-First-clause-holds : goal.returns-in-First-clause-holds
 returns-in-First-clause-holds g c =
@@ -34,24 +32,19 @@ returns-in-First-clause-holds g c =
 
 pub returns-in-Ok-clause-opened : goal.returns-in-Ok-clause-opened
 returns-in-Ok-clause-opened g c =
-    let old = c.args.self.now in
-    subst (λ alone. OpensAlone g.A.Bank g.B.Bank alone (old.first, old.second) c.set_mark.new.self FirstOut true) (sym c.in-Second.is)
+    subst (λ alone. OpensAlone g.A.Bank g.B.Bank alone (c.args.self.now.first, c.args.self.now.second) c.set_mark.new.self FirstOut true) (sym c.in-Second.is)
     (record { out = refl; held = c.in-Ok.ensures.sets.marked; left = c.set_mark.ensures.sets.other; mark = refl })
 
 pub returns-in-Ok-clause-bytes : goal.returns-in-Ok-clause-bytes
 returns-in-Ok-clause-bytes g c told =
-    let a = g.A.Bank in
-    let b = g.B.Bank in
     let new = c.set_mark.new.self in
-    subst (λ alone. bytes_of a b new ≡ shown_by a b alone c.args.self.now) (sym c.in-Second.is)
-    (pair-stale (a.now new.first) (b.now new.second) (c.in-Ok.ensures.sets.marked told) ∙ c.set_mark.ensures.sets.front told)
+    subst (λ alone. bytes_of g.A.Bank g.B.Bank new ≡ shown_by g.A.Bank g.B.Bank alone c.args.self.now) (sym c.in-Second.is)
+    (pair-stale (g.A.Bank.now new.first) (g.B.Bank.now new.second) (c.in-Ok.ensures.sets.marked told) ∙ c.set_mark.ensures.sets.front told)
 
 pub returns-in-Ok-clause-holds : goal.returns-in-Ok-clause-holds
 returns-in-Ok-clause-holds g c =
-    let a = g.A.Bank in
-    let b = g.B.Bank in
     let pair = c.args.self.now in
-    subst (λ alone. HoldsOnly a b pair c.set_mark.new.self (AsWas a b pair.first pair.second (shown_by a b alone pair))) (sym c.in-Second.is) c.set_mark.ensures.holds
+    subst (λ alone. HoldsOnly g.A.Bank g.B.Bank pair c.set_mark.new.self (AsWas g.A.Bank g.B.Bank pair.first pair.second (shown_by g.A.Bank g.B.Bank alone pair))) (sym c.in-Second.is) c.set_mark.ensures.holds
 
 pub returns-in-Err-clause-failed : goal.returns-in-Err-clause-failed
 returns-in-Err-clause-failed g c =
@@ -59,7 +52,5 @@ returns-in-Err-clause-failed g c =
 
 pub returns-in-Err-clause-holds : goal.returns-in-Err-clause-holds
 returns-in-Err-clause-holds g c =
-    let a = g.A.Bank in
-    let b = g.B.Bank in
     let pair = c.args.self.now in
-    subst (λ alone. HoldsOnly a b pair c.set_mark.new.self (AsWas a b pair.first pair.second (shown_by a b alone pair))) (sym c.in-Second.is) c.set_mark.ensures.holds
+    subst (λ alone. HoldsOnly g.A.Bank g.B.Bank pair c.set_mark.new.self (AsWas g.A.Bank g.B.Bank pair.first pair.second (shown_by g.A.Bank g.B.Bank alone pair))) (sym c.in-Second.is) c.set_mark.ensures.holds

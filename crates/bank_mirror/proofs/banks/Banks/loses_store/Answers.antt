@@ -12,8 +12,7 @@ returns-in-Ok-Second-clause-loses g c told =
     let a = g.A.Bank in
     let b = g.B.Bank in
     let old = c.args.self.now in
-    let mid = c.good_one.new.self in
-    let marked : is_marked a b old ≡ true = sym (same_mark a b old mid c.good_one.ensures.reads.keeps told) ∙ stale_by a b _ mid c.in-Ok-Second.field-0-is c.in-Ok-Second.ensures.good told in
+    let marked : is_marked a b old ≡ true = sym (same_mark a b old c.good_one.new.self c.good_one.ensures.reads.keeps told) ∙ stale_by a b _ c.good_one.new.self c.in-Ok-Second.field-0-is c.in-Ok-Second.ensures.good told in
     ap (λ s. if s then false else (is_blank (a.now old.first) && is_live c.args.live_mark.now (b.now old.second))) (sym marked)
 
 pub returns-in-Ok-Second-clause-looks : goal.returns-in-Ok-Second-clause-looks
@@ -29,11 +28,10 @@ returns-in-Ok-First-clause-loses g c =
     let a = g.A.Bank in
     let b = g.B.Bank in
     let old = c.args.self.now in
-    let mid = c.good_one.new.self in
     let keeps = c.good_one.ensures.reads.keeps in
     IfOk-weaker c.is_blank_over_live.result _ _
     (λ it is told.
-    let fresh : is_marked a b old ≡ false = sym (same_mark a b old mid keeps told) ∙ fresh_by a b _ mid c.in-Ok-First.field-0-is c.in-Ok-First.ensures.good told in
+    let fresh : is_marked a b old ≡ false = sym (same_mark a b old c.good_one.new.self keeps told) ∙ fresh_by a b _ c.good_one.new.self c.in-Ok-First.field-0-is c.in-Ok-First.ensures.good told in
     is told
     ∙ (λ i. is_blank ((keeps.kept told).0 i) && is_live c.args.live_mark.now ((keeps.kept told).1 i))
     ∙ ap (λ s. if s then false else (is_blank (a.now old.first) && is_live c.args.live_mark.now (b.now old.second))) (sym fresh))

@@ -11,16 +11,14 @@ use Rattle.bank_mirror.proofs.banks.Banks.read_alone.Goals as goal
 
 pub returns-in-First-clause-piece : goal.returns-in-First-clause-piece
 returns-in-First-clause-piece g c =
-    let a = g.A.Bank in
-    let b = g.B.Bank in
     let old = c.args.self.now in
     let call = c.read_first.ensures in
     record {
       read = on_ok_weaker c.read_first.result
-          (λ read told. read told.0 ∙ ap (piece c.args.at (length c.args.into.now)) (sym (pair-fresh (a.now old.first) (b.now old.second) (fresh_by a b c.args.good old c.in-First.is c.requires.held told))))
+          (λ read told. read told.0 ∙ ap (piece c.args.at (length c.args.into.now)) (sym (pair-fresh (g.A.Bank.now old.first) (g.B.Bank.now old.second) (fresh_by g.A.Bank g.B.Bank c.args.good old c.in-First.is c.requires.held told))))
           call.reads.read;
       stops = search rules;
-      keeps = first_keeps a b old c.read_first.new.self call.reads.kept call.calls;
+      keeps = first_keeps g.A.Bank g.B.Bank old c.read_first.new.self call.reads.kept call.calls;
     }
 
 pub returns-in-First-clause-alone : goal.returns-in-First-clause-alone
@@ -39,17 +37,16 @@ returns-in-First-clause-alone g c =
 pub returns-in-Second-clause-piece : goal.returns-in-Second-clause-piece
 returns-in-Second-clause-piece g c =
     let a = g.A.Bank in
-    let b = g.B.Bank in
     let old = c.args.self.now in
     let call = c.read_second.ensures in
     record {
       read = on_ok_weaker c.read_second.result
           (λ read told.
           let fits : c.args.at + length c.args.into.now ≤ length (a.now old.first) = omega (arith, g.met.A.Bank.whole old.first told.0, c.requires.room) in
-          read told.1 ∙ piece-stale c.args.at (length c.args.into.now) (a.now old.first) (b.now old.second) fits (stale_by a b c.args.good old c.in-Second.is c.requires.held told))
+          read told.1 ∙ piece-stale c.args.at (length c.args.into.now) (a.now old.first) (g.B.Bank.now old.second) fits (stale_by a g.B.Bank c.args.good old c.in-Second.is c.requires.held told))
           call.reads.read;
       stops = search rules;
-      keeps = second_keeps a b old c.read_second.new.self call.reads.kept call.calls;
+      keeps = second_keeps a g.B.Bank old c.read_second.new.self call.reads.kept call.calls;
     }
 
 pub returns-in-Second-clause-alone : goal.returns-in-Second-clause-alone

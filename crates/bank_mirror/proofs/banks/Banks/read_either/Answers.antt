@@ -9,14 +9,11 @@ use Rattle.bank_mirror.proofs.banks.Banks.read_either.Goals as goal
 
 pub returns-in-Ok-clause-piece : goal.returns-in-Ok-clause-piece
 returns-in-Ok-clause-piece g c =
-    let a = g.A.Bank in
-    let b = g.B.Bank in
     let old = c.args.self.now in
-    let call = c.read_first.ensures in
     record {
-      read = λ told. c.in-Ok.ensures.reads.read told.0 ∙ ap (piece c.args.at (length c.args.into.now)) (sym (pair-fresh (a.now old.first) (b.now old.second) (c.requires.held told).0));
+      read = λ told. c.in-Ok.ensures.reads.read told.0 ∙ ap (piece c.args.at (length c.args.into.now)) (sym (pair-fresh (g.A.Bank.now old.first) (g.B.Bank.now old.second) (c.requires.held told).0));
       stops = search rules;
-      keeps = first_keeps a b old c.read_first.new.self call.reads.kept call.calls;
+      keeps = first_keeps g.A.Bank g.B.Bank old c.read_first.new.self c.read_first.ensures.reads.kept c.read_first.ensures.calls;
     }
 
 pub returns-in-Err-clause-piece : goal.returns-in-Err-clause-piece
@@ -25,7 +22,6 @@ returns-in-Err-clause-piece g c =
     let b = g.B.Bank in
     let pair = c.args.self.now in
     let mid = c.read_first.new.self in
-    let new = c.read_second.new.self in
     let one = c.read_first.ensures in
     let two = c.read_second.ensures in
     let first = a.now pair.first in
@@ -43,7 +39,7 @@ returns-in-Err-clause-piece g c =
           ∙ ap (piece c.args.at count) (sym (pair-fresh first second (c.requires.held told).0)))
           two.reads.read;
       stops = search rules;
-      keeps = keeps_twice a b (λ told. (g.met.A.Bank.tells_both told.0, g.met.B.Bank.tells_both told.1)) pair mid new (first_keeps a b pair mid one.reads.kept one.calls) (second_keeps a b mid new two.reads.kept two.calls);
+      keeps = keeps_twice a b (λ told. (g.met.A.Bank.tells_both told.0, g.met.B.Bank.tells_both told.1)) pair mid c.read_second.new.self (first_keeps a b pair mid one.reads.kept one.calls) (second_keeps a b mid c.read_second.new.self two.reads.kept two.calls);
     }
 
 pub returns-in-Err-clause-failed : goal.returns-in-Err-clause-failed

@@ -10,25 +10,18 @@ use Rattle.bank_mirror.proofs.banks.Banks.read_unread.Goals as goal
 
 pub returns-in-Ok-clause-piece : goal.returns-in-Ok-clause-piece
 returns-in-Ok-clause-piece g c =
-    let a = g.A.Bank in
-    let b = g.B.Bank in
-    let old = c.args.self.now in
-    let mid = c.good_one.new.self in
     let reads = c.good_one.ensures.reads in
     let after = c.read_alone.ensures.piece in
     record {
-      read = on_ok_weaker c.read_alone.result (λ read told. read told ∙ ap (piece c.args.at (length c.args.into.now)) (same_bytes a b old mid reads.keeps told)) after.read;
+      read = on_ok_weaker c.read_alone.result (λ read told. read told ∙ ap (piece c.args.at (length c.args.into.now)) (same_bytes g.A.Bank g.B.Bank c.args.self.now c.good_one.new.self reads.keeps told)) after.read;
       stops = (after.stops.0 ∙ reads.stops.0, after.stops.1 ∙ reads.stops.1);
-      keeps = keeps_twice a b (λ told. (g.met.A.Bank.tells_both told.0, g.met.B.Bank.tells_both told.1)) old mid c.read_alone.new.self reads.keeps after.keeps;
+      keeps = keeps_twice g.A.Bank g.B.Bank (λ told. (g.met.A.Bank.tells_both told.0, g.met.B.Bank.tells_both told.1)) c.args.self.now c.good_one.new.self c.read_alone.new.self reads.keeps after.keeps;
     }
 
 pub returns-in-Ok-clause-in_use : goal.returns-in-Ok-clause-in_use
 returns-in-Ok-clause-in_use g c =
-    let a = g.A.Bank in
-    let b = g.B.Bank in
-    let new = c.read_alone.new.self in
-    subst (LeavesInUse a b Unread c.args.self.now new (IsErr c.read_alone.result)) (sym c.in_use.ensures)
-    (alone_again a b c.in-Ok.good c.args.self.now c.good_one.new.self new c.good_one.result (IsErr c.read_alone.result) c.good_one.ensures.reads c.read_alone.ensures.piece.keeps.goes_on c.read_alone.ensures.alone)
+    subst (LeavesInUse g.A.Bank g.B.Bank Unread c.args.self.now c.read_alone.new.self (IsErr c.read_alone.result)) (sym c.in_use.ensures)
+    (alone_again g.A.Bank g.B.Bank c.in-Ok.good c.args.self.now c.good_one.new.self c.read_alone.new.self c.good_one.result (IsErr c.read_alone.result) c.good_one.ensures.reads c.read_alone.ensures.piece.keeps.goes_on c.read_alone.ensures.alone)
 
 pub returns-in-Err-clause-in_use : goal.returns-in-Err-clause-in_use
 returns-in-Err-clause-in_use g c =

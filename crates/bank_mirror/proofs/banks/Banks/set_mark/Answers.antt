@@ -18,10 +18,8 @@ returns-in-Ok-Second-clause-sets g c = record {
 
 pub returns-in-Ok-Second-clause-holds : goal.returns-in-Ok-Second-clause-holds
 returns-in-Ok-Second-clause-holds g c =
-    let a = g.A.Bank in
-    let b = g.B.Bank in
     let old = c.args.self.now in
-    keeps_holds a b old c.good_one.new.self (AsWas a b old.first old.second (front_of a b old)) (inl refl) c.good_one.ensures.reads.keeps
+    keeps_holds g.A.Bank g.B.Bank old c.good_one.new.self (AsWas g.A.Bank g.B.Bank old.first old.second (front_of g.A.Bank g.B.Bank old)) (inl refl) c.good_one.ensures.reads.keeps
 
 pub returns-in-Err-clause-sets : goal.returns-in-Err-clause-sets
 returns-in-Err-clause-sets g c = record {
@@ -33,22 +31,19 @@ returns-in-Err-clause-sets g c = record {
 
 pub returns-in-Err-clause-holds : goal.returns-in-Err-clause-holds
 returns-in-Err-clause-holds g c =
-    let a = g.A.Bank in
-    let b = g.B.Bank in
     let old = c.args.self.now in
-    keeps_holds a b old c.good_one.new.self (AsWas a b old.first old.second (front_of a b old)) (inl refl) c.good_one.ensures.reads.keeps
+    keeps_holds g.A.Bank g.B.Bank old c.good_one.new.self (AsWas g.A.Bank g.B.Bank old.first old.second (front_of g.A.Bank g.B.Bank old)) (inl refl) c.good_one.ensures.reads.keeps
 
 pub returns-in-Ok-First-clause-sets : goal.returns-in-Ok-First-clause-sets
 returns-in-Ok-First-clause-sets g c =
     let old = c.args.self.now in
-    let mid = c.good_one.new.self in
     let reads = c.good_one.ensures.reads in
     let sets = c.mark_stale.ensures.sets in
     record {
       marked = sets.marked;
-      front = λ told. sets.front told ∙ kept_front g.A.Bank g.B.Bank old mid reads.keeps told;
+      front = λ told. sets.front told ∙ kept_front g.A.Bank g.B.Bank old c.good_one.new.self reads.keeps told;
       other = sets.other ∙ reads.other;
-      counted = IfErr-weaker c.mark_stale.result _ _ (λ fault. calls_counted g.A.Bank g.B.Bank (old.first, old.second) mid c.mark_stale.new.self fault reads.keeps.goes_on.counts) sets.counted;
+      counted = IfErr-weaker c.mark_stale.result _ _ (λ fault. calls_counted g.A.Bank g.B.Bank (old.first, old.second) c.good_one.new.self c.mark_stale.new.self fault reads.keeps.goes_on.counts) sets.counted;
     }
 
 pub returns-in-Ok-First-clause-holds : goal.returns-in-Ok-First-clause-holds

@@ -13,12 +13,10 @@ returns-in-First-clause-writes g c =
     let a = g.A.Bank in
     let b = g.B.Bank in
     let old = c.args.self.now in
-    let new = c.write_first.new.self in
-    let call = c.write_first.ensures in
     let fresh = fresh_by a b c.args.good old c.in-First.is c.requires.held in
-    writes_as a b (λ told. (g.met.A.Bank.tells_both told.0, g.met.B.Bank.tells_both told.1)) old new c.args.at c.args.bytes.now (a.now old.first) (bytes_of a b old) c.write_first.result
+    writes_as a b (λ told. (g.met.A.Bank.tells_both told.0, g.met.B.Bank.tells_both told.1)) old c.write_first.new.self c.args.at c.args.bytes.now (a.now old.first) (bytes_of a b old) c.write_first.result
     (λ told. sym (pair-fresh (a.now old.first) (b.now old.second) (fresh told)))
-    (first_writes a b (λ told. (g.met.A.Bank.tells_both told.0, g.met.B.Bank.tells_both told.1)) old new c.args.at c.args.bytes.now c.write_first.result fresh call.writes call.calls)
+    (first_writes a b (λ told. (g.met.A.Bank.tells_both told.0, g.met.B.Bank.tells_both told.1)) old c.write_first.new.self c.args.at c.args.bytes.now c.write_first.result fresh c.write_first.ensures.writes c.write_first.ensures.calls)
 
 pub returns-in-First-clause-alone : goal.returns-in-First-clause-alone
 returns-in-First-clause-alone g c =
@@ -38,13 +36,12 @@ returns-in-Second-clause-writes g c =
     let a = g.A.Bank in
     let b = g.B.Bank in
     let old = c.args.self.now in
-    let new = c.write_second.new.self in
     let call = c.write_second.ensures in
     let stale = stale_by a b c.args.good old c.in-Second.is c.requires.held in
     let larger : BothTell a b → length (a.now old.first) ≤ length (b.now old.second) = λ told. omega (arith, g.met.A.Bank.whole old.first told.0, g.met.B.Bank.whole old.second told.1, call.larger) in
-    writes_as a b (λ told. (g.met.A.Bank.tells_both told.0, g.met.B.Bank.tells_both told.1)) old new c.args.at c.args.bytes.now _ (bytes_of a b old) c.write_second.result
+    writes_as a b (λ told. (g.met.A.Bank.tells_both told.0, g.met.B.Bank.tells_both told.1)) old c.write_second.new.self c.args.at c.args.bytes.now _ (bytes_of a b old) c.write_second.result
     (λ told. sym (pair-stale (a.now old.first) (b.now old.second) (stale told)))
-    (second_writes a b (λ told. (g.met.A.Bank.tells_both told.0, g.met.B.Bank.tells_both told.1)) g.met.A.Bank.whole old new c.args.at c.args.bytes.now c.write_second.result c.requires.room larger stale call.writes call.calls)
+    (second_writes a b (λ told. (g.met.A.Bank.tells_both told.0, g.met.B.Bank.tells_both told.1)) g.met.A.Bank.whole old c.write_second.new.self c.args.at c.args.bytes.now c.write_second.result c.requires.room larger stale call.writes call.calls)
 
 pub returns-in-Second-clause-alone : goal.returns-in-Second-clause-alone
 returns-in-Second-clause-alone g c =

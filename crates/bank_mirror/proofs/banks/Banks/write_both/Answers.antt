@@ -69,16 +69,15 @@ returns-in-Failed-clause-in_use g c =
     let new = c.write_marked.new.self in
     let goes = c.write_first.ensures.calls.goes_on in
     let marked = c.write_marked.ensures in
-    let rose = c.in-Failed.ensures.writes.counted.0 in
     record {
       held = marked.held;
-      excuse = λ mark_failed opening since excused. marked.excuse mark_failed opening (since_on a b opening old mid since goes) (first_fails a b opening old mid since rose);
+      excuse = λ mark_failed opening since excused. marked.excuse mark_failed opening (since_on a b opening old mid since goes) (first_fails a b opening old mid since c.in-Failed.ensures.writes.counted.0);
       out = tt;
       last = marked.last;
       fault = λ is. inr (second_fails a b (old.first, old.second) mid new goes.counts (marked.failed is));
       cause = λ is mark_failed opening since excused.
           let later = since_on a b opening old mid since goes in
-          inl (first_failed_on a b opening mid new later marked.writes.holds.goes_on (first_fails a b opening old mid since rose), second_fails a b opening mid new later (marked.failed is));
+          inl (first_failed_on a b opening mid new later marked.writes.holds.goes_on (first_fails a b opening old mid since c.in-Failed.ensures.writes.counted.0), second_fails a b opening mid new later (marked.failed is));
     }
 
 pub returns-in-Stopped-clause-writes : goal.returns-in-Stopped-clause-writes
@@ -87,24 +86,15 @@ returns-in-Stopped-clause-writes g c =
     let b = g.B.Bank in
     let both : BothTellMoments a b → BothTell a b = λ told. (g.met.A.Bank.tells_both told.0, g.met.B.Bank.tells_both told.1) in
     let old = c.args.self.now in
-    let mid = c.write_first.new.self in
-    let first = c.write_first.ensures in
-    let at = c.args.at in
-    let bytes = c.args.bytes.now in
     let fresh : BothTell a b → is_marked a b old ≡ false = λ told. (c.requires.held told).0 in
     let same : BothTell a b → a.now old.first ≡ bytes_of a b old = λ told. sym (pair-fresh (a.now old.first) (b.now old.second) (fresh told)) in
-    writes_as a b both old mid at bytes (a.now old.first) (bytes_of a b old) Stopped same (first_writes a b both old mid at bytes Stopped fresh c.in-Stopped.ensures.writes first.calls)
+    writes_as a b both old c.write_first.new.self c.args.at c.args.bytes.now (a.now old.first) (bytes_of a b old) Stopped same (first_writes a b both old c.write_first.new.self c.args.at c.args.bytes.now Stopped fresh c.in-Stopped.ensures.writes c.write_first.ensures.calls)
 
 pub returns-in-Stopped-clause-in_use : goal.returns-in-Stopped-clause-in_use
 returns-in-Stopped-clause-in_use g c =
-    let a = g.A.Bank in
-    let b = g.B.Bank in
-    let old = c.args.self.now in
-    let mid = c.write_first.new.self in
-    let first = c.write_first.ensures in
     record {
-      held = first_held a b (λ told. (g.met.A.Bank.tells_both told.0, g.met.B.Bank.tells_both told.1)) old mid c.args.at (length c.args.bytes.now) (λ told. (c.requires.held told).0) first.writes.torn first.calls.other;
-      excuse = λ mark_failed opening since excused. inr (inl (one_stops a b opening old mid since (inl c.in-Stopped.ensures.writes.counted.0)));
+      held = first_held g.A.Bank g.B.Bank (λ told. (g.met.A.Bank.tells_both told.0, g.met.B.Bank.tells_both told.1)) c.args.self.now c.write_first.new.self c.args.at (length c.args.bytes.now) (λ told. (c.requires.held told).0) c.write_first.ensures.writes.torn c.write_first.ensures.calls.other;
+      excuse = λ mark_failed opening since excused. inr (inl (one_stops g.A.Bank g.B.Bank opening c.args.self.now c.write_first.new.self since (inl c.in-Stopped.ensures.writes.counted.0)));
       out = tt;
       last = λ is. absurd (cc is);
       fault = λ is. absurd (cc is);

@@ -30,10 +30,8 @@ returns-in-Err-clause-writes g c =
 
 pub returns-in-Ok-clause-excuse : goal.returns-in-Ok-clause-excuse
 returns-in-Ok-clause-excuse g c mark_failed opening since first =
-    let a = g.A.Bank in
-    let b = g.B.Bank in
-    subst (IsExcused a b mark_failed opening c.good_one.new.self) (sym c.in_use.ensures)
-    (marked_excuse a b c.in-Ok.good c.write_mark.result mark_failed opening c.args.self.now c.write_mark.new.self c.good_one.new.self since first c.write_mark.ensures.moves.goes_on c.good_one.ensures.reads.keeps.goes_on c.in_default.not-Done c.write_mark.ensures.counted)
+    subst (IsExcused g.A.Bank g.B.Bank mark_failed opening c.good_one.new.self) (sym c.in_use.ensures)
+    (marked_excuse g.A.Bank g.B.Bank c.in-Ok.good c.write_mark.result mark_failed opening c.args.self.now c.write_mark.new.self c.good_one.new.self since first c.write_mark.ensures.moves.goes_on c.good_one.ensures.reads.keeps.goes_on c.in_default.not-Done c.write_mark.ensures.counted)
 
 pub returns-in-Err-clause-excuse : goal.returns-in-Err-clause-excuse
 returns-in-Err-clause-excuse g c mark_failed opening since first =

@@ -18,15 +18,13 @@ returns-in-Stopped-clause-holds g c =
 pub returns-in-Done-clause-in_use : goal.returns-in-Done-clause-in_use
 returns-in-Done-clause-in_use g c =
     let a = g.A.Bank in
-    let b = g.B.Bank in
     let old = c.args.self.now in
-    let new = c.write_second.new.self in
     let call = c.write_second.ensures in
     record {
       held = λ told.
-          let larger : length (a.now old.first) ≤ length (b.now old.second) = omega (arith, g.met.A.Bank.whole old.first told.0, g.met.B.Bank.whole old.second told.1, call.larger) in (
-            mark_stays a b (λ told. (g.met.A.Bank.tells_both told.0, g.met.B.Bank.tells_both told.1)) g.met.A.Bank.whole old new c.args.at (length c.args.bytes.now) c.requires.room call.writes.torn call.calls.other told ∙ c.requires.fresh told,
-            front_written a b (λ told. (g.met.A.Bank.tells_both told.0, g.met.B.Bank.tells_both told.1)) g.met.A.Bank.whole old new c.args.at c.args.bytes.now c.requires.room larger call.calls.other told (c.in-Done.ensures.writes.done refl told.1)
+          let larger : length (a.now old.first) ≤ length (g.B.Bank.now old.second) = omega (arith, g.met.A.Bank.whole old.first told.0, g.met.B.Bank.whole old.second told.1, call.larger) in (
+            mark_stays a g.B.Bank (λ told. (g.met.A.Bank.tells_both told.0, g.met.B.Bank.tells_both told.1)) g.met.A.Bank.whole old c.write_second.new.self c.args.at (length c.args.bytes.now) c.requires.room call.writes.torn call.calls.other told ∙ c.requires.fresh told,
+            front_written a g.B.Bank (λ told. (g.met.A.Bank.tells_both told.0, g.met.B.Bank.tells_both told.1)) g.met.A.Bank.whole old c.write_second.new.self c.args.at c.args.bytes.now c.requires.room larger call.calls.other told (c.in-Done.ensures.writes.done refl told.1)
                 ∙ sym (c.requires.taken told)
                 ∙ sym (ap a.now call.calls.other),
           );
@@ -39,9 +37,8 @@ returns-in-Done-clause-in_use g c =
 
 pub returns-in-Failed-clause-in_use : goal.returns-in-Failed-clause-in_use
 returns-in-Failed-clause-in_use g c =
-    let call = c.write_second.ensures in
     record {
-      held = λ told. mark_stays g.A.Bank g.B.Bank (λ told. (g.met.A.Bank.tells_both told.0, g.met.B.Bank.tells_both told.1)) g.met.A.Bank.whole c.args.self.now c.write_second.new.self c.args.at (length c.args.bytes.now) c.requires.room call.writes.torn call.calls.other told ∙ c.requires.fresh told;
+      held = λ told. mark_stays g.A.Bank g.B.Bank (λ told. (g.met.A.Bank.tells_both told.0, g.met.B.Bank.tells_both told.1)) g.met.A.Bank.whole c.args.self.now c.write_second.new.self c.args.at (length c.args.bytes.now) c.requires.room c.write_second.ensures.writes.torn c.write_second.ensures.calls.other told ∙ c.requires.fresh told;
       excuse = λ mark_failed opening since excused. inl (second_fails g.A.Bank g.B.Bank opening c.args.self.now c.write_second.new.self since c.in-Failed.ensures.writes.counted.0);
       out = tt;
       last = λ is. absurd (cc is);
@@ -51,9 +48,8 @@ returns-in-Failed-clause-in_use g c =
 
 pub returns-in-Stopped-clause-in_use : goal.returns-in-Stopped-clause-in_use
 returns-in-Stopped-clause-in_use g c =
-    let call = c.write_second.ensures in
     record {
-      held = λ told. mark_stays g.A.Bank g.B.Bank (λ told. (g.met.A.Bank.tells_both told.0, g.met.B.Bank.tells_both told.1)) g.met.A.Bank.whole c.args.self.now c.write_second.new.self c.args.at (length c.args.bytes.now) c.requires.room call.writes.torn call.calls.other told ∙ c.requires.fresh told;
+      held = λ told. mark_stays g.A.Bank g.B.Bank (λ told. (g.met.A.Bank.tells_both told.0, g.met.B.Bank.tells_both told.1)) g.met.A.Bank.whole c.args.self.now c.write_second.new.self c.args.at (length c.args.bytes.now) c.requires.room c.write_second.ensures.writes.torn c.write_second.ensures.calls.other told ∙ c.requires.fresh told;
       excuse = λ mark_failed opening since excused. inr (inl (one_stops g.A.Bank g.B.Bank opening c.args.self.now c.write_second.new.self since (inr c.in-Stopped.ensures.writes.counted.0)));
       out = tt;
       last = λ is. absurd (cc is);

@@ -25,21 +25,16 @@ returns-in-Ok-clause-writes g c =
 
 pub returns-in-Ok-clause-in_use : goal.returns-in-Ok-clause-in_use
 returns-in-Ok-clause-in_use g c =
-    let a = g.A.Bank in
-    let b = g.B.Bank in
-    let new = c.write_alone.new.self in
-    subst (LeavesInUse a b Unread c.args.self.now new (c.write_alone.result ≡ Failed)) (sym c.in_use.ensures)
-    (alone_again a b c.in-Ok.good c.args.self.now c.good_one.new.self new c.good_one.result (c.write_alone.result ≡ Failed) c.good_one.ensures.reads c.write_alone.ensures.writes.holds.goes_on c.write_alone.ensures.alone)
+    subst (LeavesInUse g.A.Bank g.B.Bank Unread c.args.self.now c.write_alone.new.self (c.write_alone.result ≡ Failed)) (sym c.in_use.ensures)
+    (alone_again g.A.Bank g.B.Bank c.in-Ok.good c.args.self.now c.good_one.new.self c.write_alone.new.self c.good_one.result (c.write_alone.result ≡ Failed) c.good_one.ensures.reads c.write_alone.ensures.writes.holds.goes_on c.write_alone.ensures.alone)
 
 pub returns-in-Err-clause-writes : goal.returns-in-Err-clause-writes
 returns-in-Err-clause-writes g c =
-    let a = g.A.Bank in
-    let b = g.B.Bank in
     let old = c.args.self.now in
     let count = length c.args.bytes.now in
     record {
       done = λ is. absurd (cc is);
-      holds = keeps_holds a b old c.good_one.new.self (Torn c.args.at count (bytes_of a b old)) (torn_same c.args.at count (bytes_of a b old)) c.good_one.ensures.reads.keeps;
+      holds = keeps_holds g.A.Bank g.B.Bank old c.good_one.new.self (Torn c.args.at count (bytes_of g.A.Bank g.B.Bank old)) (torn_same c.args.at count (bytes_of g.A.Bank g.B.Bank old)) c.good_one.ensures.reads.keeps;
       counted = search rules;
     }
 

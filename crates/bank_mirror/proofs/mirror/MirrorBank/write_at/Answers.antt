@@ -45,11 +45,9 @@ returns-clause-rules g c =
 
 pub returns-clause-why : goal.returns-clause-why
 returns-clause-why g c failed =
-    let a = g.A.Bank in
-    let b = g.B.Bank in
     let old : Mirrored _ _ = record { pair = c.self.inside.banks; in_use = c.self.inside.in_use; mark_failed = c.self.inside.mark_failed; faults = c.self.inside.faults } in
     let new : Mirrored _ _ = record { pair = c.write-ended.new.self; in_use = c.write-ended.result.in_use; mark_failed = c.self.inside.mark_failed; faults = c.counted-self-inside.result } in
-    subst (λ (was : Mirrored _ _). FailsFor a b was new) c.self.view_is (record {
+    subst (λ (was : Mirrored _ _). FailsFor g.A.Bank g.B.Bank was new) c.self.view_is (record {
       fault = c.write-ended.ensures.in_use.fault failed;
-      cause = has_cause a b old new.pair c.self.invariant c.write-ended.ensures.writes.holds.goes_on (c.write-ended.ensures.in_use.cause failed);
+      cause = has_cause g.A.Bank g.B.Bank old new.pair c.self.invariant c.write-ended.ensures.writes.holds.goes_on (c.write-ended.ensures.in_use.cause failed);
     })
