@@ -13,7 +13,7 @@ use std::thread::Threads;
 use tbl_adapters::{StandardInput, StandardOutput};
 use tbl_kinds::{Bytes, Memory};
 use tbl_outside::{Bank, Gate, Sink, Source};
-use tbl_top::run;
+use tbl_top::{Service, run};
 
 /// What `--help` answers.
 const HELP: &str = "tbl: the cFE table service, played from a session
@@ -89,7 +89,14 @@ fn play<R: Threads + Wait + Sync, S: Source, K: Sink, B: Bank + Send>(
     requires { bank_size ≤ B.size bank }
 {
     let kit = shipped_entries(alloc)?;
-    let (status, _bank) = run(rt, alloc, words, source, sink, bank, kit, &OpenGate);
+    let (status, _bank) = run(
+        rt,
+        words,
+        source,
+        sink,
+        Service { alloc, bank, kit },
+        &OpenGate,
+    );
     Ok(status)
 }
 

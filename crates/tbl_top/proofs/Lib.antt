@@ -19,3 +19,4 @@ pub mod DrillLemmas
 pub mod WordsLemmas
 pub mod MakerLemmas
 pub mod HistoryLemmas
+pub mod PlaysOnLemmas

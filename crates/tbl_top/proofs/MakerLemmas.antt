@@ -1,5 +1,5 @@
 -- The word `describe` if memory runs out for its shape.
-use Rattle.std.proofs.Common.{◌≡◌, ℤ, List, ℕ, [], inl, inr, refl, sym, subst, arith}
+use Rattle.std.proofs.Common.{◌≡◌, ℤ, List, ℕ, [], inl, inr, sym, subst, arith}
 use Rattle.std.specs.Io.KnownBytes.{prepend_known}
 use Rattle.tbl_kinds.specs.Admitted.{Admitted}
 use Rattle.tbl_kinds.specs.Buffers.{Buffer}

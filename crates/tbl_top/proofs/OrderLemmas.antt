@@ -1,5 +1,5 @@
 -- What is written of a session that is played in order: each entry before the next record is played, and a read that failed last.
-use Rattle.std.proofs.Common.{◌≡◌, ℕ, ℤ, Bool, true, false, List, [], ◌∷◌, ◌++◌, length, take, Option, refl, sym, arith, inl, inr, ◌∙◌}
+use Rattle.std.proofs.Common.{◌≡◌, ℕ, ℤ, Bool, true, false, List, [], ◌∷◌, length, take, Option, refl, sym, arith, inl, inr, ◌∙◌}
 use Rattle.std.proofs.lemmas.List.{append-nil}
 use Rattle.std.specs.Io.KnownBytes.{append_known}
 use Rattle.tbl_kinds.specs.Transcript.{pairs_of, entry_bytes, entries_bytes, end_bytes, offset_of}

@@ -1,10 +1,10 @@
 -- A record at the front of the bytes is played.
 use Rattle.std.proofs.Math.Seq.{take-length}
-use Rattle.std.proofs.Common.{◌≡◌, ℕ, ◌+◌, ◌-◌, ◌*◌, ◌<◌, ◌≤◌, List, [], ◌∷◌, ◌++◌, length, take, drop, refl, sym, ap, subst, ◌∙◌, append_assoc, arith}
+use Rattle.std.proofs.Common.{◌≡◌, ℕ, ◌+◌, ◌-◌, ◌*◌, ◌<◌, ◌≤◌, List, [], ◌∷◌, ◌++◌, length, take, drop, sym, ap, subst, ◌∙◌, append_assoc, arith}
 use Rattle.std.proofs.lemmas.List.{take-append-drop, length-drop, length-take, drop-drop, length-append, length-map}
 use Rattle.std.specs.List.{AllByRecursion}
 use Rattle.std.specs.Prelude.{Option, Some, None, MatchOption, ⊤}
-use Rattle.tbl_kinds.specs.Records.{Pair, IsRecord, spelling, joined}
+use Rattle.tbl_kinds.specs.Records.{Pair, IsRecord, spelling, joined, record_limit}
 use Rattle.tbl_kinds.specs.Transcript.{pair_of, pairs_of, offset_of}
 use Rattle.session_records.specs.Reading.{IfItem}
 use Rattle.session_records.specs.declared.reading.Next.{Next}
@@ -13,11 +13,11 @@ use Rattle.tbl_kinds.specs.declared.request.Actor.{Actor}
 use Rattle.tbl_kinds.specs.declared.request.Request.{Request}
 use Rattle.tbl_core.specs.Service.{CoreView}
 use Rattle.tbl_top.specs.Playing.{IsSession}
-use Rattle.tbl_top.specs.Standing.{Leaves, TellsCause, TellsLast}
+use Rattle.tbl_top.specs.Standing.{Leaves, TellsLast}
 use Rattle.tbl_top.specs.declared.playback.Standing.{Standing}
 use Rattle.tbl_top.specs.declared.playback.Standing.TheVariants.{Open, Bad, Full, BootFault, BootStopped, SinkFailed, Memory, Unwritten}
 use Rattle.tbl_kinds.proofs.RecordLaws.{length-spelling}
-use Rattle.tbl_kinds.proofs.InputLaws.{joined-snoc}
+use Rattle.tbl_kinds.proofs.InputLaws.{each-snoc, joined-snoc}
 use Rattle.tbl_kinds.proofs.TranscriptLaws.{pairs_of-snoc, offset_is}
 use Rattle.tbl_kinds.specs.declared.entry.Entry.{Entry}
 
@@ -31,6 +31,15 @@ pub record Added (old new : List Entry) (p : Pair) : Type 0 where
 pub joined_more : (old new : List Entry) (p : Pair) → Added old new p → joined (pairs_of new) ≡ joined (pairs_of old) ++ spelling p
 joined_more old new p a =
     ap (λ (es : List Entry). joined (pairs_of es)) a.added ∙ ap joined (pairs_of-snoc old a.entry ∙ ap (λ (q : Pair). pairs_of old ++ q ∷ []) a.pair) ∙ joined-snoc (pairs_of old) p
+
+-- it is a session still, if a further record might be played
+pub session_more : {B C : Type 0} (old new : CoreView B C) (p : Pair) → IsSession old → IsRecord p → length old.entries < record_limit → Added old.entries new.entries p → IsSession new
+session_more old new p was is room a =
+    let pairs : pairs_of new.entries ≡ pairs_of old.entries ++ p ∷ [] = ap pairs_of a.added ∙ pairs_of-snoc old.entries a.entry ∙ ap (λ (q : Pair). pairs_of old.entries ++ q ∷ []) a.pair in
+    record {
+      each = subst (AllByRecursion IsRecord) (sym pairs) (each-snoc (pairs_of old.entries) p was.each is);
+      few = omega (arith, room, ap (λ (es : List Entry). length es) a.added, length-append old.entries (a.entry ∷ []));
+    }
 
 -- the bytes are the same as before
 pub played_stream : (old new : List Entry) (p : Pair) (bytes : List ℕ) (at used : ℕ) → joined (pairs_of new) ≡ joined (pairs_of old) ++ spelling p → take used (drop at bytes) ≡ spelling p
@@ -65,17 +74,6 @@ stop_leaves (Some Open) a b played behind why = absurd why
 stop_leaves (Some Bad) a b played behind why = absurd why
 stop_leaves (Some Full) a b played behind why = absurd why
 stop_leaves (Some Memory) a b played behind why = absurd why
-
-pub stop_cause : (stop : Option Standing) (a b : ℕ) → TellsLast stop a b → MatchOption stop (b ≡ a) (λ standing. TellsCause standing a b)
-stop_cause None a b why = why
-stop_cause (Some BootFault) a b why = why
-stop_cause (Some BootStopped) a b why = why
-stop_cause (Some SinkFailed) a b why = why
-stop_cause (Some Unwritten) a b why = why
-stop_cause (Some Open) a b why = absurd why
-stop_cause (Some Bad) a b why = absurd why
-stop_cause (Some Full) a b why = absurd why
-stop_cause (Some Memory) a b why = absurd why
 
 -- ---- how long a session can be
 

@@ -19,7 +19,7 @@ use Rattle.tbl_top.specs.Standing.{Leaves, HasPlayedAll, TellsBoot}
 use Rattle.tbl_history.specs.Trouble.{IsCaused}
 use Rattle.tbl_history.proofs.TroubleLemmas.{still_lives, one_boot}
 use Rattle.tbl_top.specs.Feeding.{IsKept}
-use Rattle.tbl_top.specs.Finishing.{status_of, Taken, WritesEnd, Finishes}
+use Rattle.tbl_top.specs.Finishing.{status_of, WritesEnd}
 use Rattle.tbl_session.specs.Session.{IsStatus, IsEnded, IsBooted, IsBrokenOff, EndsAs, BootsAs, IsExact, WouldEnd, Tells}
 use Rattle.tbl_top.proofs.CompletenessLemmas.{bad_is_some}
 use Rattle.tbl_top.specs.declared.playback.Standing.{Standing}
@@ -264,18 +264,3 @@ ended_standing BootStopped failed whole ended = absurd (booted_not_ended 8 (inr 
 ended_standing SinkFailed failed whole ended = absurd (not_ended 4 (inr refl) ended)
 ended_standing Memory failed whole ended = absurd (not_ended 1 (inl refl) ended)
 ended_standing Unwritten failed whole ended = absurd (not_ended 1 (inl refl) ended)
-
--- no session is reported as usage, whether its end was written or the sink failed inside it
-written_not_usage : (status result : ℕ) (entries : List Entry) (before after : Taken) → IsStatus status → WritesEnd status result entries before after → result ≢ 2
-written_not_usage status result entries before after is (inl written) = subst (λ n. n ≢ 2) (sym written.0) (known_not_usage status is)
-written_not_usage status result entries before after is (inr failed) = λ two. omega (arith, failed.0, two)
-
-pub finished_not_usage : (standing : Standing) (failed whole : Bool) (result : ℕ) (entries : List Entry) (before after : Taken) → Finishes standing (status_of standing failed whole) result entries before after → result ≢ 2
-finished_not_usage SinkFailed failed whole result entries before after ends = λ two. omega (arith, ends.0, two)
-finished_not_usage Unwritten failed whole result entries before after ends = λ two. omega (arith, ends.0, two)
-finished_not_usage Open failed whole result entries before after ends = written_not_usage (status_of Open failed whole) result entries before after (status_is Open failed whole) ends
-finished_not_usage Bad failed whole result entries before after ends = written_not_usage 5 result entries before after (status_is Bad failed whole) ends
-finished_not_usage Full failed whole result entries before after ends = written_not_usage 6 result entries before after (status_is Full failed whole) ends
-finished_not_usage BootFault failed whole result entries before after ends = written_not_usage 7 result entries before after (status_is BootFault failed whole) ends
-finished_not_usage BootStopped failed whole result entries before after ends = written_not_usage 8 result entries before after (status_is BootStopped failed whole) ends
-finished_not_usage Memory failed whole result entries before after ends = written_not_usage 1 result entries before after (status_is Memory failed whole) ends

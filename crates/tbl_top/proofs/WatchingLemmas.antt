@@ -1,5 +1,5 @@
 -- From what a watched crew played to the report that was written.
-use Rattle.std.proofs.Common.{◌≡◌, ◌≢◌, ◌≤◌, ◌⊎◌, ℕ, ℤ, eqb, Bool, true, List, [], length, Option, Some, None, refl, sym, ap, subst, ◌∙◌, arith, inl, inr}
+use Rattle.std.proofs.Common.{◌≡◌, ◌≢◌, ◌≤◌, ℕ, ℤ, eqb, Bool, true, List, [], length, Option, Some, None, refl, sym, ◌∙◌, arith, inl, inr}
 use Rattle.std.specs.Io.KnownBytes.{prepend_known, IsAtEnd}
 use Rattle.tbl_kinds.specs.Records.{Pair}
 use Rattle.tbl_kinds.specs.StoreSteps.{Shows}
@@ -11,7 +11,6 @@ use Rattle.table_watch.specs.declared.watch.Look.{Look}
 use Rattle.tbl_outside.specs.Bank.{LeavesOnly}
 use Rattle.tbl_outside.specs.Counts.{Rose}
 use Rattle.tbl_outside.specs.declared.bank.Bank.{Ghosts}
-use Rattle.tbl_model.specs.State.{State}
 use Rattle.tbl_core.specs.Service.{CoreView, StartCounted}
 use Rattle.tbl_core.specs.declared.service.StepFault.TheVariants.{Memory as NoMemory, BootFault as Faulted, BootStopped as Stopped}
 use Rattle.tbl_core.specs.declared.service.StartFault.{StartFault}
@@ -39,7 +38,7 @@ use Rattle.tbl_top.specs.declared.playback.Standing.TheVariants.{Open, Bad, Full
 use Rattle.tbl_top.proofs.CrewLemmas.{behind_boot, behind_cause, by_actor, none_behind, nothing_requested, read_behind}
 use Rattle.tbl_top.proofs.FailureLemmas.{reads_of}
 use Rattle.tbl_top.proofs.SessionLemmas.{session_of, unbegun}
-use Rattle.tbl_top.proofs.StatusLemmas.{known_not_usage, not_ended, not_sink, status_is}
+use Rattle.tbl_top.proofs.StatusLemmas.{not_ended, not_sink}
 use Rattle.tbl_kinds.specs.declared.entry.Entry.{Entry}
 use Rattle.tbl_kinds.specs.declared.request.Request.{Request}
 
@@ -210,11 +209,6 @@ watch_failures end read pairs kept bytes text failed at_end r has cause ends tol
       writes = told.calm;
     }
 
-pub ends_not_usage : (s : Standing) (failed whole : Bool) (result : ℕ) → ReportsAs (status_of s failed whole) result → result ≢ 2
-ends_not_usage s failed whole result (inl same) two = known_not_usage (status_of s failed whole) (status_is s failed whole) (sym same ∙ two)
-ends_not_usage s failed whole result (inr (zero, inl one)) two = omega (arith, one, two)
-ends_not_usage s failed whole result (inr (zero, inr four)) two = omega (arith, four, two)
-
 -- ---- if the service didn't begin
 
 unbegun_finishes : (fault : StartFault) (result faults faults_then : ℕ) → result ≡ unbegun_status fault → faults_then ≡ faults → FinishesUnbegun fault result (None, faults) (None, faults_then)
@@ -226,11 +220,6 @@ unbegun_silent : (fault : StartFault) → (unbegun_status fault ≢ 0) × (unbeg
 unbegun_silent NoStart = (λ e. omega (arith, e), λ e. omega (arith, e))
 unbegun_silent FirstFault = (λ e. omega (arith, e), λ e. omega (arith, e))
 unbegun_silent FirstStopped = (λ e. omega (arith, e), λ e. omega (arith, e))
-
-pub unbegun_not_usage : (fault : StartFault) → unbegun_status fault ≢ 2
-unbegun_not_usage NoStart = λ e. omega (arith, e)
-unbegun_not_usage FirstFault = λ e. omega (arith, e)
-unbegun_not_usage FirstStopped = λ e. omega (arith, e)
 
 pub unwatched : {B C : Type 0} (g : Ghosts B) (laws : Laws g) (verdict : C → List ℕ → ℤ) (o : Opening B C) (first : IsFirst o.state) (r : Ran B) → r.left_then ≡ r.left
     → (g.tells_moments → LeavesOnly g.clock g.left_since o.bank r.bank_then (λ image. Shows o.state.store (store_of image))) → r.taken_then ≡ r.taken → r.unwritten_then ≡ r.unwritten

@@ -10,7 +10,7 @@ use Rattle.tbl_outside.specs.Streams.{TakesFront}
 use Rattle.tbl_outside.proofs.Streams.{append_known-nil, append_known-twice, written_more, front_of_second}
 use Rattle.tbl_core.specs.Service.{CoreView}
 use Rattle.tbl_top.specs.Playing.{IsWritten, IsCutShort, IsFrontWritten}
-use Rattle.tbl_top.specs.Standing.{TellsWritten, TellsFront, TellsBoot, IsEnding, TellsStop, TellsWhy, TellsLast}
+use Rattle.tbl_top.specs.Standing.{TellsWritten, TellsFront, TellsBoot, IsEnding, TellsStop, TellsWhy, TellsLast, standing_of}
 use Rattle.tbl_top.specs.declared.playback.Standing.{Standing}
 use Rattle.tbl_top.specs.declared.playback.Standing.TheVariants.{Open, Bad, Full, BootFault, BootStopped, SinkFailed, Memory, Unwritten}
 use Rattle.tbl_kinds.specs.declared.entry.Entry.{Entry}
@@ -98,8 +98,7 @@ wrote_last stop first before after old new w place added at is said written =
 
 -- ---- if the last entry was written, what the step left is reported
 
-pub ending_written : (ending : Option Standing) (first taken : Option (List ℕ)) (entries : List Entry) → IsEnding ending → IsWritten first entries taken
-    → MatchOption ending (IsWritten first entries taken) (λ standing. TellsWritten standing first entries taken)
+pub ending_written : (ending : Option Standing) (first taken : Option (List ℕ)) (entries : List Entry) → IsEnding ending → IsWritten first entries taken → TellsWritten (standing_of ending) first entries taken
 ending_written None first taken entries is written = written
 ending_written (Some BootFault) first taken entries is written = written
 ending_written (Some BootStopped) first taken entries is written = written

@@ -58,3 +58,8 @@ pub record TakesNone (standing : Standing) (at further : ℕ) (old new : Collect
 abbrev pub TakesMore : Option (Standing × Bool) → List ℕ → Collecting → Type 0 → Type 0 → Type 0
 TakesMore None fed c some at_end = some × (most : ℕ) × (pairs : List Pair) × HasTaken Open fed most pairs c
 TakesMore (Some ended) fed c some at_end = (pairs : List Pair) × (c.scripts ≡ scripts_of pairs) × HasRead ended.0 pairs c.rest fed ended.1 at_end
+
+-- whether a read failed, if the reading ended
+abbrev pub failed_of : Option (Standing × Bool) → Option Bool
+failed_of None = None
+failed_of (Some ended) = Some ended.1

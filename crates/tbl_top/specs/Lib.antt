@@ -3,6 +3,9 @@ pub mod Watching
 pub mod Words
 pub mod Playing
 pub mod Standing
+pub mod PlaysOn
+pub mod Soundness
+pub mod Starting
 pub mod Feeding
 pub mod Finishing
 pub mod Failures

@@ -6,6 +6,8 @@ use Rattle.tbl_top.specs.Playing.{Playing, bytes_fed}
 use Rattle.tbl_session.specs.Inputs.{IsBeginning, StopsReading}
 use Rattle.tbl_top.specs.Feeding.{Feeds, IsKept}
 use Rattle.tbl_outside.specs.Counts.{Rose}
+use Rattle.tbl_outside.specs.Streams.{ReadsOn as GaveBytes, ReadsToEnd}
+use Rattle.tbl_outside.specs.declared.stream.Source.{Ghosts as SourceGhosts}
 use Rattle.tbl_top.specs.Standing.{Leaves, HasPlayedAll}
 use Rattle.tbl_top.specs.declared.playback.Standing.{Standing}
 use Rattle.tbl_top.specs.declared.playback.Standing.TheVariants.{Open}
@@ -19,6 +21,17 @@ HasFailed false before after = after ≡ before
 abbrev pub HasFailedAtEnd : Option Bool → ℕ → ℕ → Type 0
 HasFailedAtEnd None before after = after ≡ before
 HasFailedAtEnd (Some failed) before after = HasFailed failed before after
+
+-- What a reading was like for its source, by whether it ended and whether a read failed then.
+pub record ReadsFrom {S : Type 0} (s : SourceGhosts S) (ended : Option Bool) (before after : S) : Type 0 where
+  -- a read failed only if that is told
+  pub cause : HasFailedAtEnd ended (s.faults before) (s.faults after)
+  -- if it may go on, bytes came and the source goes on
+  pub goes_on : ended ≡ None → GaveBytes (s.how_far before) (s.how_far after)
+  -- nothing is read after the end or after a read that failed
+  pub once : ReadsToEnd (s.how_far before) (s.how_far after)
+  -- the count of failed reads doesn't fall
+  pub count : s.faults before ≤ s.faults after
 
 -- This was read: these records, and after them what a standing describes. What is kept is what comes after them, as long as more could
 -- follow. More could follow only if the input ended or a read failed. Nothing is found out about the input after a failed read.

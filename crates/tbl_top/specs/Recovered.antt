@@ -2,7 +2,6 @@
 use Rattle.std.specs.Prelude.{◌≡◌, ◌⊎◌, ℕ, ◌≤◌, List, [], ◌∷◌, length, Bool, true, Option, Some, None, slice_get, IsSome}
 use Rattle.tbl_kinds.specs.Admitted.{Admitted}
 use Rattle.tbl_kinds.specs.Blocks.{Stored, Store}
-use Rattle.tbl_kinds.specs.StoreSteps.{stored_at}
 use Rattle.tbl_model.specs.State.{State, Table}
 use Rattle.tbl_model.specs.Tables.{table_at, has_option, is_critical}
 use Rattle.tbl_model.specs.Applications.{full_name}

@@ -131,3 +131,8 @@ TellsLast (Some Unwritten) before after = after ≡ before
 TellsLast (Some BootFault) before after = after ≡ before
 TellsLast (Some BootStopped) before after = after ≡ before
 TellsLast (Some _) before after = ⊥
+
+-- the standing after a record: open if a further one may follow
+abbrev pub standing_of : Option Standing → Standing
+standing_of None = Open
+standing_of (Some standing) = standing

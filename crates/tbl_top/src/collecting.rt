@@ -1,11 +1,10 @@
 //! Reads all records of an input, by their actors, before any of them is played.
 
-ghost use Rattle.std.specs.Prelude.{◌≡◌, ◌==◌, ◌<◌, ◌≤◌, ◌+◌, List, None, ℕ, [], ◌++◌, length, IfOk, MatchOption};
+ghost use Rattle.std.specs.Prelude.{◌≡◌, ◌==◌, ◌<◌, ◌≤◌, ◌+◌, List, Some, ℕ, [], ◌++◌, length, IfOk, MatchOption};
 ghost use Rattle.std.specs.Io.KnownBytes.{prepend_known, IsAtEnd};
 ghost use Rattle.tbl_kinds.specs.Records.{Pair};
-ghost use Rattle.tbl_outside.specs.Streams.{ReadsOn, ReadsToEnd};
-ghost use Rattle.tbl_top.specs.Collecting.{HasTaken, TakesMore, TakesNone, TakesOne, scripts_of};
-ghost use Rattle.tbl_top.specs.Reading.{HasRead, HasFailed};
+ghost use Rattle.tbl_top.specs.Collecting.{HasTaken, TakesMore, TakesNone, TakesOne, failed_of, scripts_of};
+ghost use Rattle.tbl_top.specs.Reading.{HasRead, ReadsFrom};
 ghost use Rattle.tbl_session.specs.Inputs.{piece_limit};
 ghost use Rattle.tbl_top.specs.Standing.{IsOfInput};
 ghost use Rattle.tbl_top.specs.declared.playback.Standing.TheVariants.{Open};
@@ -31,7 +30,6 @@ pub(crate) struct Collector {
 }
 
 impl Model for Collector {
-    ghost use Rattle.tbl_outside.specs.Streams.{ReadsOn, ReadsToEnd};
     ghost use Rattle.tbl_top.specs.Collecting.{Collecting};
 
     ghost Value = { Collecting };
@@ -118,10 +116,7 @@ impl Collector {
         ensures reads { (read : List ℕ) × (S.left source.old ≡ prepend_known read (S.left source.new))
             × ((fed : List ℕ) (most : ℕ) (pairs : List Pair) → HasTaken Open fed most pairs self.old → TakesMore result (fed ++ read) self.new (0 < length read) (IsAtEnd (S.left source.new))) }
         ensures input { MatchOption result (Unit {0}) (λ ended. IsOfInput ended.0) }
-        ensures source_cause { MatchOption result (S.faults source.new ≡ S.faults source.old) (λ ended. HasFailed ended.1 (S.faults source.old) (S.faults source.new)) }
-        ensures goes_on { result ≡ None → ReadsOn (S.how_far source.old) (S.how_far source.new) }
-        ensures once { ReadsToEnd (S.how_far source.old) (S.how_far source.new) }
-        ensures count { S.faults source.old ≤ S.faults source.new }
+        ensures source { ReadsFrom S.Source (failed_of result) source.old source.new }
     {
         match source.read(piece) {
             Err(Failed) => Some((Standing::Open, true)),
@@ -139,9 +134,7 @@ impl Collector {
         ensures reads { (read : List ℕ) × (S.left source.old ≡ prepend_known read (S.left source.new))
             × (pairs : List Pair) × (self.new.scripts ≡ scripts_of pairs) × HasRead result.0 pairs self.new.rest read result.1 (IsAtEnd (S.left source.new)) }
         ensures input { IsOfInput result.0 }
-        ensures source_cause { HasFailed result.1 (S.faults source.old) (S.faults source.new) }
-        ensures once { ReadsToEnd (S.how_far source.old) (S.how_far source.new) }
-        ensures count { S.faults source.old ≤ S.faults source.new }
+        ensures source { ReadsFrom S.Source (Some result.1) source.old source.new }
     {
         let mut piece = [0u8; PIECE_LENGTH];
         'reads: for _ in 0..MOST_READS {

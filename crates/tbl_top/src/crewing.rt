@@ -1,33 +1,29 @@
 //! Plays the records of an input with a thread for each actor.
 
-ghost use Rattle.std.specs.Prelude.{◌≡◌, ◌≢◌, ◌≤◌, ◌<◌, ◌^◌, Option, List, [], false, All, IfOk, IfErr};
+ghost use Rattle.std.specs.Prelude.{◌≡◌, ◌≤◌, [], IfOk, IfErr};
 ghost use Rattle.tbl_kinds.specs.Places.{bank_size};
-ghost use Rattle.tbl_kinds.specs.StoreSteps.{Shows};
-ghost use Rattle.cds_layout.specs.Images.{store_of};
-ghost use Rattle.tbl_core.specs.Service.{StartCounted};
-ghost use Rattle.tbl_outside.specs.Bank.{LeavesOnly};
 ghost use Rattle.tbl_outside.specs.Streams.{ReadsToEnd};
-ghost use Rattle.tbl_outside.specs.declared.validator.KitEntry.{KitEntry as Entry};
 ghost use Rattle.tbl_session.specs.Openings.{Opening};
-ghost use Rattle.tbl_session.specs.Orders.{ByActor};
-ghost use Rattle.tbl_session.specs.Session.{Session, opening_of, ran};
+ghost use Rattle.tbl_session.specs.Session.{ran};
 ghost use Rattle.tbl_history.specs.Serving.{Serves};
 ghost use Rattle.tbl_crew.specs.CrewView.{TellsFault};
 ghost use Rattle.tbl_top.specs.Collecting.{HasTaken};
-ghost use Rattle.tbl_top.specs.Failures.{TellsFailures};
 ghost use Rattle.tbl_top.specs.Standing.{IsOfInput, StandsBehind, TellsBoot, TellsCause, TellsFront, standing_behind};
+ghost use Rattle.tbl_top.specs.Starting.{MayStart, HasBegun, IsFresh, FailsToStart, opening_by};
+ghost use Rattle.tbl_top.specs.Words.{Outcome};
 ghost use Rattle.tbl_top.specs.declared.playback.Standing.TheVariants.{Open};
+ghost use Rattle.tbl_top.specs.declared.words.Word.TheVariants.{Crew};
 
 use crate::collecting::Collector;
 use crate::finishing::{finish, finish_unbegun};
 use crate::playback::{Playback, Standing};
+use crate::service::Service;
 use crate::session::begin;
-use std::alloc::Global;
 use std::sync::Wait;
 use std::thread::Threads;
 use tbl_core::{Core, StartFault, StepFault};
 use tbl_kinds::Admit;
-use tbl_outside::{Back, Bank, Gate, KitEntry, Sink, Source, Validator};
+use tbl_outside::{Back, Bank, Gate, Sink, Source, Validator};
 
 /// The standing of a session after what its crew played.
 pub(crate) fn standing_behind(fault: Option<StepFault>, read: Standing) -> Standing
@@ -80,15 +76,11 @@ pub(crate) fn play_crew<
     sink: &mut K,
     gate: &G,
 ) -> (u8, Core<B, C>)
-    requires live { playback.state.ended ≡ false }
-    requires empty { playback.entries ≡ [] }
-    requires begun { (o : Opening B C) × Serves B.Bank C.verdict o playback }
+    requires begun { HasBegun B.Bank C.verdict playback }
     requires fresh { HasTaken Open [] 0 [] collector }
-    ensures session { (o : Opening B C) → Serves B.Bank C.verdict o playback
-        → Session ByActor B.Bank C.verdict o (ran S.Source K.Sink (source.old, sink.old) (source.new, sink.new) (result.0, result.1.state.store.bank)) }
-    ensures failures { TellsFailures (ran S.Source K.Sink (source.old, sink.old) (source.new, sink.new) (result.0, result.1.state.store.bank)) }
+    ensures outcome { (o : Opening B C) → Serves B.Bank C.verdict o playback
+        → Outcome Crew B.Bank C.verdict o (ran S.Source K.Sink (source.old, sink.old) (source.new, sink.new) (result.0, result.1.state.store.bank)) }
     ensures once { ReadsToEnd (S.how_far source.old) (S.how_far source.new) }
-    ensures not_usage { result.0 ≢ 2 }
 {
     let (read, read_failed) = collector.read_all(source);
     let is_whole = collector.is_whole();
@@ -100,27 +92,20 @@ pub(crate) fn play_crew<
 
 /// A session before anything was read, over a service at its start. An error gives the bank back.
 fn begin_crew<B: Bank, C: Validator>(
-    alloc: Global,
-    bank: B,
-    kit: Vec<KitEntry<C>>,
+    service: Service<B, C>,
     admit: Admit,
 ) -> Result<(Playback<B, C>, Collector), Back<StartFault, B>>
-    requires room { bank_size ≤ B.size bank }
-    requires asked { All (λ (e : Entry C). C.asked e.check < 2 ^ 62) kit.items }
-    ensures empty { IfOk result (λ begun. begun.0.entries ≡ []) }
-    ensures live { IfOk result (λ begun. begun.0.state.ended ≡ false) }
-    ensures serves { IfOk result (λ begun. Serves B.Bank C.verdict (opening_of B.Bank bank kit.items admit) begun.0) }
+    requires may_start { MayStart B.Bank C.Validator service }
+    ensures begun { IfOk result (λ begun. IsFresh B.Bank C.verdict (opening_by B.Bank service admit) begun.0) }
     ensures fresh { IfOk result (λ begun. HasTaken Open [] 0 [] begun.1) }
-    ensures crash_err { IfErr result (λ back. B.tells_moments → LeavesOnly B.clock B.left_since bank back.bank (λ image. Shows (store_of (B.now bank)) (store_of image))) }
-    ensures cause { IfErr result (λ back. StartCounted B.Bank bank back.bank back.cause) }
-    ensures room_err { IfErr result (λ back. bank_size ≤ B.size back.bank) }
+    ensures err { IfErr result (λ back. FailsToStart B.Bank service.bank back.cause back.bank) }
 {
-    match Collector::make(alloc) {
+    match Collector::make(service.alloc) {
         Err(_) => Err(Back {
             cause: StartFault::Memory,
-            bank,
+            bank: service.bank,
         }),
-        Ok(collector) => Ok((begin(alloc, bank, kit, admit)?.playback(), collector)),
+        Ok(collector) => Ok((begin(service, admit)?.playback(), collector)),
     }
 }
 
@@ -132,25 +117,13 @@ pub(crate) fn run_crew<
     S: Source,
     K: Sink,
     G: Gate + Sync,
->(
-    rt: &R,
-    alloc: Global,
-    source: &mut S,
-    sink: &mut K,
-    bank: B,
-    kit: Vec<KitEntry<C>>,
-    admit: Admit,
-    gate: &G,
-) -> (u8, B)
-    requires room { bank_size ≤ B.size bank }
-    requires asked { All (λ (e : Entry C). C.asked e.check < 2 ^ 62) kit.items }
-    ensures not_usage { result.0 ≢ 2 }
-    ensures session { Session ByActor B.Bank C.verdict (opening_of B.Bank bank kit.items admit) (ran S.Source K.Sink (source.old, sink.old) (source.new, sink.new) result) }
-    ensures failures { TellsFailures (ran S.Source K.Sink (source.old, sink.old) (source.new, sink.new) result) }
+>(rt: &R, source: &mut S, sink: &mut K, service: Service<B, C>, admit: Admit, gate: &G) -> (u8, B)
+    requires may_start { MayStart B.Bank C.Validator service }
+    ensures outcome { Outcome Crew B.Bank C.verdict (opening_by B.Bank service admit) (ran S.Source K.Sink (source.old, sink.old) (source.new, sink.new) result) }
     ensures once { ReadsToEnd (S.how_far source.old) (S.how_far source.new) }
     ensures room { bank_size ≤ B.size result.1 }
 {
-    match begin_crew(alloc, bank, kit, admit) {
+    match begin_crew(service, admit) {
         Err(Back { cause, bank }) => (finish_unbegun(cause, sink), bank),
         Ok((playback, collector)) => {
             let (status, core) = play_crew(rt, playback, collector, source, sink, gate);

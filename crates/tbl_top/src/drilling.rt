@@ -1,22 +1,22 @@
 //! Plays a drill, and writes the line that sums it up.
 
-ghost use Rattle.std.specs.Prelude.{◌≡◌, ◌≢◌, ◌⊎◌, ℕ, ◌+◌, ◌^◌, ◌<◌, ◌≤◌, Option, List, [], ◌++◌, length, false, true, All};
+ghost use Rattle.std.specs.Prelude.{◌≡◌, ◌≢◌, ◌⊎◌, ℕ, ◌+◌, ◌≤◌, Option, List, [], ◌++◌, length, false, true};
 ghost use Rattle.std.specs.List.{AllByRecursion};
 ghost use Rattle.tbl_kinds.specs.Places.{bank_size};
 ghost use Rattle.tbl_kinds.specs.Records.{Pair, IsRecord, record_limit};
 ghost use Rattle.tbl_kinds.specs.Transcript.{pairs_of};
-ghost use Rattle.tbl_outside.specs.declared.validator.KitEntry.{KitEntry as Entry};
 ghost use Rattle.tbl_history.specs.Serving.{Continues};
-ghost use Rattle.tbl_session.specs.Session.{opening_of};
 ghost use Rattle.tbl_top.specs.Drilling.{Drills, summary, unread};
 ghost use Rattle.tbl_top.specs.Finishing.{status_of};
 ghost use Rattle.tbl_top.specs.Listing.{TellsText};
 ghost use Rattle.tbl_top.specs.Standing.{IsOfScript, TellsBoot};
+ghost use Rattle.tbl_top.specs.Starting.{MayStart, opening_by};
 ghost use Rattle.tbl_top.specs.declared.playback.Standing.TheVariants.{Open};
 
 use crate::finishing::{NO_MEMORY, end_status, unbegun_status};
 use crate::listing::write_text;
 use crate::playback::Standing;
+use crate::service::Service;
 use crate::stepping::step;
 use crate::summary::sum_up;
 use std::alloc::Global;
@@ -24,7 +24,7 @@ use tbl_core::Core;
 use tbl_drill::{Scripted, drill_session};
 use tbl_history::start;
 use tbl_kinds::{Admit, Memory};
-use tbl_outside::{Back, Bank, KitEntry, Sink, Validator};
+use tbl_outside::{Back, Bank, Sink, Validator};
 
 /// Plays a script to its end, or to the request with which a boot ended the service, or for which memory ran out.
 fn play_script<B: Bank, C: Validator>(core: &mut Core<B, C>, script: &mut Scripted) -> Standing
@@ -69,20 +69,18 @@ fn tell_summary<B: Bank, C: Validator, K: Sink>(
 
 /// Plays a drill: boots over the bank, plays the session of this seed, and writes its line if all of it was played.
 pub(crate) fn run_drill<K: Sink, B: Bank, C: Validator>(
-    alloc: Global,
     seed: u64,
     rounds: u32,
     sink: &mut K,
-    bank: B,
-    kit: Vec<KitEntry<C>>,
+    service: Service<B, C>,
     admit: Admit,
 ) -> (u8, B)
-    requires room { bank_size ≤ B.size bank }
-    requires asked { All (λ (e : Entry C). C.asked e.check < 2 ^ 62) kit.items }
+    requires may_start { MayStart B.Bank C.Validator service }
     requires few { 9 + rounds ≤ record_limit }
-    ensures drill { (left : Option (List ℕ)) (faults : ℕ) → Drills seed rounds B.Bank C.verdict (opening_of B.Bank bank kit.items admit) (unread K.Sink left faults sink.old sink.new result) }
+    ensures drill { (left : Option (List ℕ)) (faults : ℕ) → Drills seed rounds B.Bank C.verdict (opening_by B.Bank service admit) (unread K.Sink left faults sink.old sink.new result) }
     ensures room { bank_size ≤ B.size result.1 }
 {
+    let Service { alloc, bank, kit } = service;
     let Ok(mut script) = drill_session(alloc, seed, rounds) else {
         return (NO_MEMORY, bank);
     };

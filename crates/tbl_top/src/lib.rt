@@ -12,6 +12,7 @@ mod player;
 mod playing;
 mod reading;
 mod running;
+mod service;
 mod session;
 mod stepping;
 mod summary;
@@ -22,6 +23,7 @@ mod writing;
 
 pub use player::{Fed, Player};
 pub use running::run;
+pub use service::Service;
 pub use session::run_in_order;
-pub use twice::{BetweenCalls, Reset, run_again};
+pub use twice::{BetweenCalls, Reset, Session, run_again};
 pub use words::Word;

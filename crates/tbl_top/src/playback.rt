@@ -1,20 +1,23 @@
 //! Plays whole records at the front of bytes, and writes each entry before the next record is looked for.
 
-ghost use Rattle.std.specs.Prelude.{◌≡◌, ⊤, ℕ, ◌<◌, ◌≤◌, Option, List, [], ◌++◌, length, drop, false, IfOk, IfErr, OnOk, MatchOption, OnErr};
+ghost use Rattle.std.specs.Prelude.{◌≡◌, ⊤, ◌<◌, ◌≤◌, ◌++◌, [], length, drop, false, IfOk, IfErr, OnOk, MatchOption, OnErr};
 ghost use Rattle.tbl_kinds.specs.Records.{IsRecord, spelling, joined, record_limit};
 ghost use Rattle.std.specs.Io.KnownBytes.{append_known};
 ghost use Rattle.tbl_kinds.specs.Transcript.{pairs_of, end_bytes, offset_of};
 ghost use Rattle.tbl_outside.specs.Counts.{Rose};
 ghost use Rattle.tbl_outside.specs.Streams.{TakesFront};
 ghost use Rattle.tbl_session.specs.Openings.{Opening};
-ghost use Rattle.tbl_history.specs.Serving.{Continues, Serves};
-ghost use Rattle.tbl_top.specs.Playing.{played_before, IsSession, IsWritten};
-ghost use Rattle.tbl_top.specs.Standing.{Leaves, TellsFront, TellsWritten, TellsCause, TellsBoot, TellsService, TellsWhy, TellsLast};
+ghost use Rattle.tbl_history.specs.Serving.{Serves};
+ghost use Rattle.tbl_top.specs.Playing.{played_before, MayPlayOne, IsWritten};
+ghost use Rattle.tbl_top.specs.PlaysOn.{PlaysOn};
+ghost use Rattle.tbl_top.specs.Standing.{Leaves, TellsFront, TellsWhy, TellsLast, standing_of};
+ghost use Rattle.tbl_top.specs.Starting.{HasBegun};
 ghost use Rattle.std.specs.List.{AllByRecursion};
 ghost use Rattle.tbl_crew.specs.Histories.{OneHistory};
 ghost use Rattle.tbl_crew.specs.Scripts.{request_count, AllFit, OfEach};
 
-use crate::playing::play;
+use crate::playing::write_last;
+use crate::stepping::step;
 use crate::writing::write;
 use session_records::{Next, body_len, next_record};
 use std::alloc::Global;
@@ -136,24 +139,17 @@ impl<B: Bank, C: Validator> Playback<B, C> {
     ) -> Result<Option<Standing>, Memory>
         requires is_record { IsRecord (record { actor = actor; request = request }) }
         requires used { used ≡ length (spelling (record { actor = actor; request = request })) }
-        requires live { self.old.state.ended ≡ false }
-        requires room { length self.old.entries < record_limit }
-        ensures plays { OnOk result (joined (pairs_of self.new.entries) ≡ joined (pairs_of self.old.entries) ++ spelling (record { actor = actor; request = request })) }
-        ensures continues { Continues B.Bank C.verdict self.old self.new }
-        ensures boot { IfOk result (λ stop. TellsService stop self.new) }
-        ensures written { (first : Option (List ℕ)) → IsWritten first self.old.entries (K.taken sink.old)
-            → IfOk result (λ stop. MatchOption stop (IsWritten first self.new.entries (K.taken sink.new)) (λ standing. TellsWritten standing first self.new.entries (K.taken sink.new))) }
+        requires may_play { MayPlayOne self.old }
+        ensures spelled { OnOk result (joined (pairs_of self.new.entries) ≡ joined (pairs_of self.old.entries) ++ spelling (record { actor = actor; request = request })) }
+        ensures plays { IfOk result (λ stop. PlaysOn B.Bank C.verdict K.Sink (standing_of stop) (self.old, sink.old) (self.new, sink.new)) }
         ensures why { IfOk result (λ stop. TellsLast stop (K.faults sink.old) (K.faults sink.new)) }
-        ensures count { K.faults sink.old ≤ K.faults sink.new }
-        ensures session { IsSession self.new }
-        ensures err { OnErr result (self.new ≡ self.old) }
-        ensures err_sink { OnErr result (sink.new ≡ sink.old) }
+        ensures err { OnErr result ((self.new ≡ self.old) × (sink.new ≡ sink.old)) }
     {
-        match play(&mut self.core, &mut self.out, actor, request, sink) {
+        match step(&mut self.core, actor, request) {
             Err(Memory) => Err(Memory),
-            Ok(stop) => {
+            Ok(ending) => {
                 self.offset += used as u32;
-                Ok(stop)
+                Ok(write_last(&self.core, &mut self.out, ending, sink))
             }
         }
     }
@@ -166,13 +162,7 @@ impl<B: Bank, C: Validator> Playback<B, C> {
         ensures stream { played_before self.new (drop at.new bytes.now) ≡ played_before self.old (drop at.old bytes.now) }
         ensures further { MatchOption result (at.old < at.new) (λ _. at.old ≤ at.new) }
         ensures leaves { MatchOption result ⊤ (λ standing. Leaves standing (length self.new.entries) (drop at.new bytes.now)) }
-        ensures continues { Continues B.Bank C.verdict self.old self.new }
-        ensures boot { TellsService result self.new }
-        ensures written { (first : Option (List ℕ)) → IsWritten first self.old.entries (K.taken sink.old)
-            → MatchOption result (IsWritten first self.new.entries (K.taken sink.new)) (λ standing. TellsWritten standing first self.new.entries (K.taken sink.new)) }
-        ensures why { MatchOption result (K.faults sink.new ≡ K.faults sink.old) (λ standing. TellsCause standing (K.faults sink.old) (K.faults sink.new)) }
-        ensures count { K.faults sink.old ≤ K.faults sink.new }
-        ensures session { IsSession self.new }
+        ensures plays { PlaysOn B.Bank C.verdict K.Sink (standing_of result) (self.old, sink.old) (self.new, sink.new) }
     {
         let count = self.core.history().len();
         let rest = &bytes[*at..];
@@ -212,12 +202,7 @@ impl<B: Bank, C: Validator> Playback<B, C> {
         ensures further { at.old ≤ at.new }
         ensures stream { played_before self.new (drop at.new bytes.now) ≡ played_before self.old (drop at.old bytes.now) }
         ensures leaves { Leaves result (length self.new.entries) (drop at.new bytes.now) }
-        ensures continues { Continues B.Bank C.verdict self.old self.new }
-        ensures boot { TellsBoot result self.new }
-        ensures written { (first : Option (List ℕ)) → IsWritten first self.old.entries (K.taken sink.old) → TellsWritten result first self.new.entries (K.taken sink.new) }
-        ensures cause { TellsCause result (K.faults sink.old) (K.faults sink.new) }
-        ensures count { K.faults sink.old ≤ K.faults sink.new }
-        ensures session { IsSession self.new }
+        ensures plays { PlaysOn B.Bank C.verdict K.Sink result (self.old, sink.old) (self.new, sink.new) }
     {
         'records: loop {
             if let Some(standing) = self.play_next(bytes, at, sink) {
@@ -261,9 +246,7 @@ impl<B: Bank + Send, C: Validator + Send> Playback<B, C> {
         scripts: Scripts,
         gate: &G,
     ) -> (Playback<B, C>, Option<StepFault>)
-        requires live { self.state.ended ≡ false }
-        requires empty { self.entries ≡ [] }
-        requires begun { (o : Opening B C) × Serves B.Bank C.verdict o self }
+        requires begun { HasBegun B.Bank C.verdict self }
         requires fits { AllFit scripts }
         requires records { OfEach IsRecord scripts }
         requires few { request_count scripts ≤ record_limit }

@@ -1,19 +1,15 @@
 //! A session as a stream of bytes, in pieces that may be cut anywhere.
 
-ghost use Rattle.std.specs.Prelude.{◌≡◌, ◌≢◌, ℕ, ◌+◌, ◌-◌, ◌<◌, ◌≤◌, ◌==◌, Option, List, [], ◌++◌, length, drop, false, IfOk, IfErr};
-ghost use Rattle.tbl_model.specs.State.{State, no_tables};
-ghost use Rattle.tbl_model.specs.History.{begins_at, run_from};
-ghost use Rattle.tbl_model.specs.Vouched.{IsVouched};
-ghost use Rattle.tbl_model.specs.Whole.{IsWhole as HasWholeReads};
+ghost use Rattle.std.specs.Prelude.{◌≡◌, ◌+◌, ◌-◌, ◌<◌, ◌≤◌, ◌==◌, [], ◌++◌, length, drop, false, IfOk, IfErr};
+ghost use Rattle.tbl_model.specs.State.{State};
 ghost use Rattle.tbl_kinds.specs.Records.{AreRecords, BeginsWith};
 ghost use Rattle.tbl_kinds.specs.Heads.{IsShort};
 ghost use Rattle.tbl_kinds.specs.Transcript.{pairs_of};
-ghost use Rattle.tbl_session.specs.Backed.{AreSingle, AreBacked};
 ghost use Rattle.tbl_core.specs.Service.{FollowsFrom};
-ghost use Rattle.tbl_history.specs.Serving.{Continues};
-ghost use Rattle.tbl_top.specs.Playing.{played_before, bytes_fed, IsSession, IsWritten};
-ghost use Rattle.tbl_session.specs.Inputs.{IsBeginning};
-ghost use Rattle.tbl_top.specs.Standing.{Leaves, HasPlayedAll, TellsWritten, TellsCause, TellsBoot};
+ghost use Rattle.tbl_top.specs.Playing.{played_before, bytes_fed, IsGoing, IsSession};
+ghost use Rattle.tbl_top.specs.PlaysOn.{PlaysOn};
+ghost use Rattle.tbl_top.specs.Soundness.{IsSound};
+ghost use Rattle.tbl_top.specs.Standing.{Leaves, HasPlayedAll};
 ghost use Rattle.tbl_top.specs.Feeding.{answer_of, Feeds};
 ghost use Rattle.tbl_top.specs.Finishing.{Finishes, status_of};
 ghost use Rattle.tbl_top.specs.declared.playback.Standing.TheVariants.{Open};
@@ -94,33 +90,14 @@ impl<B: Bank, C: Validator> Player<B, C> {
         ensures begins { BeginsWith (bytes_fed self.old ++ piece.now) (pairs_of self.new.core.entries) }
         ensures records { HasPlayedAll self.new.standing → AreRecords (bytes_fed self.old ++ piece.now) (pairs_of self.new.core.entries) }
 
-        // If the bank shows its bytes, the history stays legal, each read of it is whole, no image goes active unjudged, the verdicts are
-        // the functions', and each critical table has its block.
-        ensures continues { Continues B.Bank C.verdict self.old.core self.new.core }
-        ensures vouched { B.tells → (opening : State) → opening.tables ≡ no_tables → opening.pending ≡ [] → FollowsFrom B.Bank opening self.old.core → IsVouched opening self.new.core.entries }
-        ensures whole { B.tells → (opening : State) → opening.tables ≡ no_tables → opening.pending ≡ [] → FollowsFrom B.Bank opening self.old.core → HasWholeReads opening self.new.core.entries }
-        ensures backed { B.tells → (opening : State) → opening.tables ≡ no_tables → AreSingle opening.store → FollowsFrom B.Bank opening self.old.core
-            → AreBacked (run_from (begins_at opening) self.new.core.entries).state }
-        ensures session { IsSession self.new.core }
+        // If the bank shows its bytes: each read is whole, no image goes active unjudged, and each critical table has its block.
+        ensures sound { B.tells → (opening : State) → FollowsFrom B.Bank opening self.old.core → IsSound opening self.new.core.entries }
 
-        // The counts of the bank rise by at least what the entries say, and the last entry has a boot that ended the service.
-        ensures boot { TellsBoot self.new.standing self.new.core }
-
-        // If the bank shows its moments, a reset at any of them leaves the blocks of a place of the history, or what the entry under way
-        // there made of them, and what a restore gave was in one of these images.
-
-        // The sink took the entries' spellings; if it failed or memory ran out for a spelling, a front of them.
-        ensures written { (first : Option (List ℕ)) → IsWritten first self.old.core.entries (K.taken sink.old) → TellsWritten self.new.standing first self.new.core.entries (K.taken sink.new) }
-        ensures cause { TellsCause self.new.standing (K.faults sink.old) (K.faults sink.new) }
-        ensures count { K.faults sink.old ≤ K.faults sink.new }
+        // What the core keeps to, and what the sink took.
+        ensures plays { PlaysOn B.Bank C.verdict K.Sink self.new.standing (self.old.core, sink.old) (self.new.core, sink.new) }
     {
-        feed_fields(
-            &mut self.playback,
-            &mut self.kept,
-            &mut self.standing,
-            piece,
-            sink,
-        )
+        self.standing = play_piece(&mut self.playback, &mut self.kept, piece, sink);
+        answer(self.standing)
     }
 
     /// Ends the session: writes the end record, unless an entry before it wasn't written whole, and answers the status.
@@ -170,30 +147,6 @@ fn answer(standing: Standing) -> Fed
     }
 }
 
-/// Plays a piece, and notes the standing of the session then.
-fn feed_fields<B: Bank, C: Validator, K: Sink>(
-    playback: &mut Playback<B, C>,
-    kept: &mut Vec<u8>,
-    standing: &mut Standing,
-    piece: &[u8],
-    sink: &mut K,
-) -> Fed
-    requires session { IsSession playback.old }
-    requires live { playback.old.state.ended ≡ false }
-    requires begun { IsBeginning (length playback.old.entries) kept.old.items }
-    ensures answer { result ≡ answer_of standing.new }
-    ensures feeds { Feeds standing.new (played_before playback.old (kept.old.items ++ piece.now)) (length kept.old.items + length piece.now) playback.new kept.new.items }
-    ensures continues { Continues B.Bank C.verdict playback.old playback.new }
-    ensures boot { TellsBoot standing.new playback.new }
-    ensures session { IsSession playback.new }
-    ensures written { (first : Option (List ℕ)) → IsWritten first playback.old.entries (K.taken sink.old) → TellsWritten standing.new first playback.new.entries (K.taken sink.new) }
-    ensures cause { TellsCause standing.new (K.faults sink.old) (K.faults sink.new) }
-    ensures count { K.faults sink.old ≤ K.faults sink.new }
-{
-    *standing = play_piece(playback, kept, piece, sink);
-    answer(*standing)
-}
-
 /// Completes the record whose beginning is kept, and plays what is whole after it.
 fn play_piece<B: Bank, C: Validator, K: Sink>(
     playback: &mut Playback<B, C>,
@@ -201,16 +154,9 @@ fn play_piece<B: Bank, C: Validator, K: Sink>(
     piece: &[u8],
     sink: &mut K,
 ) -> Standing
-    requires session { IsSession playback.old }
-    requires live { playback.old.state.ended ≡ false }
-    requires begun { IsBeginning (length playback.old.entries) kept.old.items }
+    requires going { IsGoing playback.old kept.old.items }
     ensures feeds { Feeds result (played_before playback.old (kept.old.items ++ piece.now)) (length kept.old.items + length piece.now) playback.new kept.new.items }
-    ensures continues { Continues B.Bank C.verdict playback.old playback.new }
-    ensures boot { TellsBoot result playback.new }
-    ensures session { IsSession playback.new }
-    ensures written { (first : Option (List ℕ)) → IsWritten first playback.old.entries (K.taken sink.old) → TellsWritten result first playback.new.entries (K.taken sink.new) }
-    ensures cause { TellsCause result (K.faults sink.old) (K.faults sink.new) }
-    ensures count { K.faults sink.old ≤ K.faults sink.new }
+    ensures plays { PlaysOn B.Bank C.verdict K.Sink result (playback.old, sink.old) (playback.new, sink.new) }
 {
     let mut at = 0;
     'completes: while !kept.is_empty() {
@@ -242,12 +188,7 @@ fn complete<B: Bank, C: Validator, K: Sink>(
     ensures bound { length kept.new.items + at.old ≤ length kept.old.items + at.new }
     ensures stream { played_before playback.new (kept.new.items ++ drop at.new piece.now) ≡ played_before playback.old (kept.old.items ++ drop at.old piece.now) }
     ensures leaves { Leaves result (length playback.new.entries) kept.new.items }
-    ensures continues { Continues B.Bank C.verdict playback.old playback.new }
-    ensures boot { TellsBoot result playback.new }
-    ensures session { IsSession playback.new }
-    ensures written { (first : Option (List ℕ)) → IsWritten first playback.old.entries (K.taken sink.old) → TellsWritten result first playback.new.entries (K.taken sink.new) }
-    ensures cause { TellsCause result (K.faults sink.old) (K.faults sink.new) }
-    ensures count { K.faults sink.old ≤ K.faults sink.new }
+    ensures plays { PlaysOn B.Bank C.verdict K.Sink result (playback.old, sink.old) (playback.new, sink.new) }
 {
     let (_, behind) = piece.split_at(*at);
     let count = usize::min(bytes_lacking(kept.as_slice()), behind.len());
@@ -271,12 +212,7 @@ fn play_kept<B: Bank, C: Validator, K: Sink>(
     ensures bound { length kept.new.items ≤ length kept.old.items }
     ensures stream { played_before playback.new kept.new.items ≡ played_before playback.old kept.old.items }
     ensures leaves { Leaves result (length playback.new.entries) kept.new.items }
-    ensures continues { Continues B.Bank C.verdict playback.old playback.new }
-    ensures boot { TellsBoot result playback.new }
-    ensures session { IsSession playback.new }
-    ensures written { (first : Option (List ℕ)) → IsWritten first playback.old.entries (K.taken sink.old) → TellsWritten result first playback.new.entries (K.taken sink.new) }
-    ensures cause { TellsCause result (K.faults sink.old) (K.faults sink.new) }
-    ensures count { K.faults sink.old ≤ K.faults sink.new }
+    ensures plays { PlaysOn B.Bank C.verdict K.Sink result (playback.old, sink.old) (playback.new, sink.new) }
 {
     let mut used = 0;
     let standing = playback.play_whole(kept.as_slice(), &mut used, sink);
@@ -296,12 +232,7 @@ fn play_rest<B: Bank, C: Validator, K: Sink>(
     requires empty { kept.old.items ≡ [] }
     requires within { from ≤ length piece.now }
     ensures feeds { Feeds result (played_before playback.old (drop from piece.now)) (length piece.now - from) playback.new kept.new.items }
-    ensures continues { Continues B.Bank C.verdict playback.old playback.new }
-    ensures boot { TellsBoot result playback.new }
-    ensures session { IsSession playback.new }
-    ensures written { (first : Option (List ℕ)) → IsWritten first playback.old.entries (K.taken sink.old) → TellsWritten result first playback.new.entries (K.taken sink.new) }
-    ensures cause { TellsCause result (K.faults sink.old) (K.faults sink.new) }
-    ensures count { K.faults sink.old ≤ K.faults sink.new }
+    ensures plays { PlaysOn B.Bank C.verdict K.Sink result (playback.old, sink.old) (playback.new, sink.new) }
 {
     let mut at = from;
     match playback.play_whole(piece, &mut at, sink) {

@@ -1,13 +1,11 @@
 //! Reads the input piece by piece, and feeds it to the session.
 
-ghost use Rattle.std.specs.Prelude.{◌≡◌, ℕ, ◌+◌, ◌<◌, ◌≤◌, Option, None, List, [], ◌++◌, length, false};
+ghost use Rattle.std.specs.Prelude.{◌≡◌, ℕ, List, Some, length};
 ghost use Rattle.std.specs.Io.KnownBytes.{prepend_known, IsAtEnd};
-ghost use Rattle.tbl_history.specs.Serving.{Continues};
-ghost use Rattle.tbl_outside.specs.Streams.{ReadsOn as GaveBytes, ReadsToEnd};
-ghost use Rattle.tbl_top.specs.Playing.{bytes_fed, IsSession, IsWritten};
-ghost use Rattle.tbl_session.specs.Inputs.{IsBeginning, piece_limit};
-ghost use Rattle.tbl_top.specs.Standing.{TellsWritten, TellsCause, TellsBoot};
-ghost use Rattle.tbl_top.specs.Reading.{ReadsOn, EndsReading, HasFailed, HasFailedAtEnd};
+ghost use Rattle.tbl_session.specs.Inputs.{piece_limit};
+ghost use Rattle.tbl_top.specs.Playing.{IsGoing, IsUnfed};
+ghost use Rattle.tbl_top.specs.PlaysOn.{PlaysOn};
+ghost use Rattle.tbl_top.specs.Reading.{ReadsOn, EndsReading, ReadsFrom};
 ghost use Rattle.tbl_top.specs.declared.playback.Standing.TheVariants.{Open};
 
 use crate::player::{Fed, Player};
@@ -28,22 +26,12 @@ fn read_piece<B: Bank, C: Validator, S: Source, K: Sink>(
     sink: &mut K,
 ) -> Option<bool>
     requires is_open { player.old.standing ≡ Open }
-    requires begun { IsBeginning (length player.old.core.entries) player.old.rest }
-    requires session { IsSession player.old.core }
-    requires live { player.old.core.state.ended ≡ false }
+    requires going { IsGoing player.old.core player.old.rest }
     requires room { length piece.old ≡ piece_limit }
     ensures room { length piece.new ≡ piece_limit }
     ensures reads { (read : List ℕ) × (S.left source.old ≡ prepend_known read (S.left source.new)) × ReadsOn result player.old player.new read (IsAtEnd (S.left source.new)) }
-    ensures continues { Continues B.Bank C.verdict player.old.core player.new.core }
-    ensures boot { TellsBoot player.new.standing player.new.core }
-    ensures written { (first : Option (List ℕ)) → IsWritten first player.old.core.entries (K.taken sink.old) → TellsWritten player.new.standing first player.new.core.entries (K.taken sink.new) }
-    ensures source_cause { HasFailedAtEnd result (S.faults source.old) (S.faults source.new) }
-    ensures goes_on { result ≡ None → GaveBytes (S.how_far source.old) (S.how_far source.new) }
-    ensures once { ReadsToEnd (S.how_far source.old) (S.how_far source.new) }
-    ensures cause { TellsCause player.new.standing (K.faults sink.old) (K.faults sink.new) }
-    ensures source_count { S.faults source.old ≤ S.faults source.new }
-    ensures sink_count { K.faults sink.old ≤ K.faults sink.new }
-    ensures session { IsSession player.new.core }
+    ensures source { ReadsFrom S.Source result source.old source.new }
+    ensures plays { PlaysOn B.Bank C.verdict K.Sink player.new.standing (player.old.core, sink.old) (player.new.core, sink.new) }
 {
     match source.read(piece) {
         Err(Failed) => Some(true),
@@ -65,20 +53,10 @@ pub(crate) fn read_all<B: Bank, C: Validator, S: Source, K: Sink>(
     source: &mut S,
     sink: &mut K,
 ) -> bool
-    requires is_open { player.old.standing ≡ Open }
-    requires none { bytes_fed player.old ≡ [] }
-    requires session { IsSession player.old.core }
-    requires live { player.old.core.state.ended ≡ false }
+    requires unfed { IsUnfed player.old }
     ensures reads { (read : List ℕ) × (S.left source.old ≡ prepend_known read (S.left source.new)) × EndsReading player.new read result (IsAtEnd (S.left source.new)) }
-    ensures continues { Continues B.Bank C.verdict player.old.core player.new.core }
-    ensures boot { TellsBoot player.new.standing player.new.core }
-    ensures written { (first : Option (List ℕ)) → IsWritten first player.old.core.entries (K.taken sink.old) → TellsWritten player.new.standing first player.new.core.entries (K.taken sink.new) }
-    ensures source_cause { HasFailed result (S.faults source.old) (S.faults source.new) }
-    ensures once { ReadsToEnd (S.how_far source.old) (S.how_far source.new) }
-    ensures cause { TellsCause player.new.standing (K.faults sink.old) (K.faults sink.new) }
-    ensures source_count { S.faults source.old ≤ S.faults source.new }
-    ensures sink_count { K.faults sink.old ≤ K.faults sink.new }
-    ensures session { IsSession player.new.core }
+    ensures source { ReadsFrom S.Source (Some result) source.old source.new }
+    ensures plays { PlaysOn B.Bank C.verdict K.Sink player.new.standing (player.old.core, sink.old) (player.new.core, sink.new) }
 {
     let mut piece = [0u8; PIECE_LENGTH];
     'reads: for _ in 0..MOST_READS {

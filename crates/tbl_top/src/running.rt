@@ -1,32 +1,31 @@
 //! A session as its words say.
 
-ghost use Rattle.std.specs.Prelude.{◌≡◌, ◌≤◌, ◌<◌, ◌^◌, All};
+ghost use Rattle.std.specs.Prelude.{◌≡◌, ◌≤◌};
 ghost use Rattle.tbl_kinds.specs.Admitted.{Admitted};
 ghost use Rattle.tbl_kinds.specs.Places.{bank_size};
 ghost use Rattle.tbl_outside.specs.Streams.{ReadsToEnd};
-ghost use Rattle.tbl_outside.specs.declared.validator.KitEntry.{KitEntry as Entry};
-ghost use Rattle.tbl_session.specs.Session.{opening_of, ran};
+ghost use Rattle.tbl_session.specs.Session.{ran};
+ghost use Rattle.tbl_top.specs.Starting.{MayStart, opening_by};
 ghost use Rattle.tbl_top.specs.Words.{Asks, IsUnknown, Outcome, Completes, ReadsNothing};
 ghost use Rattle.tbl_top.specs.declared.words.Word.{Word as CommandWord};
 
 use crate::crewing::run_crew;
+use crate::service::Service;
 use crate::session::run_in_order;
 use crate::watching::run_watch;
 use crate::words::{Telling, threads_of};
-use std::alloc::Global;
 use std::sync::Wait;
 use std::thread::Threads;
 use tbl_kinds::Bytes;
-use tbl_outside::{Bank, Gate, KitEntry, Sink, Source, Validator};
+use tbl_outside::{Bank, Gate, Sink, Source, Validator};
 
 /// Does what the words ask for. `play` and `crew` boot over the bank as after a reset of the processor, read session records from the
 /// source, play them, and write the transcript to the sink: with `play` in order, as they come in, with `crew` with a thread for each
 /// actor, once all of them were read. Table files may come from the spacecraft and processors that the words admit. `watch` plays as `crew`
 /// does, and instead of the transcript it writes a report of the images that application 16 got. `store` reads only the bank, and writes
 /// the text of its store. `make` reads a description from the source and writes its table file, and `describe` reads a table file and
-/// writes its description; neither reads nor writes the bank. The applications have the validation functions of the kit, which are numbered
-/// from 0; these may be boxes or of any one type. The gate is called at each turn of a thread. Returns the status, which
-/// docs/reference/statuses.md lists, and the bank.
+/// writes its description; neither reads nor writes the bank. The validation functions may be boxes or of any one type. The gate is called
+/// at each turn of a thread. Returns the status, which docs/reference/statuses.md lists, and the bank.
 pub fn run<
     R: Threads + Wait + Sync,
     S: Source,
@@ -36,21 +35,18 @@ pub fn run<
     G: Gate + Sync,
 >(
     rt: &R,
-    alloc: Global,
     words: &[Bytes],
     source: &mut S,
     sink: &mut K,
-    bank: B,
-    kit: Vec<KitEntry<C>>,
+    service: Service<B, C>,
     gate: &G,
 ) -> (u8, B)
-    requires room { bank_size ≤ B.size bank }
-    requires asked { All (λ (e : Entry C). C.asked e.check < 2 ^ 62) kit.items }
+    requires may_start { MayStart B.Bank C.Validator service }
     // 2 comes only if it doesn't know the words. It always comes then, unless memory runs out for the word after `describe`. Nothing is
     // read or written then.
     ensures usage { result.0 ≡ 2 → (word : CommandWord) (admit : Admitted) → ¬ Asks words.now word admit }
     ensures unknown { ((word : CommandWord) (admit : Admitted) → ¬ Asks words.now word admit) → IsUnknown words.now result.0 }
-    ensures untouched { ((word : CommandWord) (admit : Admitted) → ¬ Asks words.now word admit) → (source.new ≡ source.old) × (sink.new ≡ sink.old) × (result.1 ≡ bank) }
+    ensures untouched { ((word : CommandWord) (admit : Admitted) → ¬ Asks words.now word admit) → (source.new ≡ source.old) × (sink.new ≡ sink.old) × (result.1 ≡ service.bank) }
 
     // If the word needs no records, the source isn't read. Nothing is read after the end of the input or after a read that failed.
     ensures unread { (word : CommandWord) (admit : Admitted) → Asks words.now word admit → ReadsNothing word → source.new ≡ source.old }
@@ -58,22 +54,19 @@ pub fn run<
 
     // What each word does, from the history that is served to the status and the bytes that the sink took.
     ensures outcome { (word : CommandWord) (admit : Admitted) → Asks words.now word admit
-        → Outcome word B.Bank C.verdict (opening_of B.Bank bank kit.items admit) (ran S.Source K.Sink (source.old, sink.old) (source.new, sink.new) result) }
+        → Outcome word B.Bank C.verdict (opening_by B.Bank service admit) (ran S.Source K.Sink (source.old, sink.old) (source.new, sink.new) result) }
 
     // Nothing is given up early: a session's records and nothing else are played to their end, and a store is written whole, unless
     // something outside failed, a boot was stopped, or memory ran out.
-    ensures complete { (word : CommandWord) (admit : Admitted) → Asks words.now word admit → Completes word B.Bank bank (ran S.Source K.Sink (source.old, sink.old) (source.new, sink.new) result) }
+    ensures complete { (word : CommandWord) (admit : Admitted) → Asks words.now word admit
+        → Completes word B.Bank service.bank (ran S.Source K.Sink (source.old, sink.old) (source.new, sink.new) result) }
 
     // The bank that comes back has room for a further call.
     ensures room { bank_size ≤ B.size result.1 }
 {
     match threads_of(words) {
-        Some((Telling::Transcript, admit)) => {
-            run_crew(rt, alloc, source, sink, bank, kit, admit, gate)
-        }
-        Some((Telling::Report, admit)) => {
-            run_watch(rt, alloc, source, sink, bank, kit, admit, gate)
-        }
-        None => run_in_order(alloc, words, source, sink, bank, kit),
+        Some((Telling::Transcript, admit)) => run_crew(rt, source, sink, service, admit, gate),
+        Some((Telling::Report, admit)) => run_watch(rt, source, sink, service, admit, gate),
+        None => run_in_order(words, source, sink, service),
     }
 }

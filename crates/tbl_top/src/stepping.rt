@@ -1,11 +1,10 @@
 //! Plays one request of a session.
 
-ghost use Rattle.std.specs.Prelude.{◌≡◌, ◌<◌, ◌∷◌, [], ◌++◌, length, false, IfOk, OnOk, OnErr};
-ghost use Rattle.tbl_kinds.specs.Records.{record_limit};
+ghost use Rattle.std.specs.Prelude.{◌≡◌, IfOk, OnOk, OnErr};
 ghost use Rattle.tbl_kinds.specs.Requests.{Fits};
 ghost use Rattle.tbl_history.specs.Serving.{Continues};
+ghost use Rattle.tbl_top.specs.Playing.{AddsEntry, MayPlayOne};
 ghost use Rattle.tbl_top.specs.Standing.{IsEnding, TellsService};
-ghost use Rattle.tbl_kinds.specs.declared.entry.Entry.{Entry};
 
 use crate::playback::Standing;
 use tbl_core::{Core, StepFault};
@@ -20,9 +19,8 @@ pub(crate) fn step<B: Bank, C: Validator>(
     request: Request,
 ) -> Result<Option<Standing>, Memory>
     requires fits { Fits actor request }
-    requires live { core.old.state.ended ≡ false }
-    requires room { length core.old.entries < record_limit }
-    ensures adds { OnOk result ((e : Entry) × (core.new.entries ≡ core.old.entries ++ e ∷ []) × (e.actor ≡ actor) × (e.request ≡ request)) }
+    requires may_play { MayPlayOne core.old }
+    ensures adds { OnOk result (AddsEntry core.old.entries core.new.entries actor request) }
     ensures continues { OnOk result (Continues B.Bank C.verdict core.old core.new) }
     ensures ending { IfOk result IsEnding }
     ensures boot { IfOk result (λ stop. TellsService stop core.new) }

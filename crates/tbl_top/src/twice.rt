@@ -7,16 +7,25 @@ ghost use Rattle.tbl_outside.specs.declared.validator.KitEntry.{KitEntry as Entr
 ghost use Rattle.tbl_session.specs.Session.{IsEnded, opening_of, ran, state_from};
 ghost use Rattle.tbl_top.specs.Histories.{PlaysSession, Runs};
 ghost use Rattle.tbl_top.specs.Recovered.{RecoversBoth, RecoversLast, StaysUp};
+ghost use Rattle.tbl_top.specs.Starting.{MayStart, opening_by};
 ghost use Rattle.tbl_top.specs.Words.{Asks};
 ghost use Rattle.tbl_top.specs.declared.words.Word.{Word as CommandWord};
 
 use crate::running::run;
-use std::alloc::Global;
+use crate::service::Service;
 use std::snapshot::Snapshot;
 use std::sync::Wait;
 use std::thread::Threads;
 use tbl_kinds::Bytes;
 use tbl_outside::{Bank, Gate, KitEntry, Sink, Source, Validator};
+
+/// What a run is given beside its service: its words, the source that it reads and the sink that it writes to.
+#[derive(Drop)]
+pub struct Session<S: Source, K: Sink> {
+    pub words: Vec<Bytes>,
+    pub source: S,
+    pub sink: K,
+}
 
 /// A reset of the processor: what it leaves of a bank is a bank of its own. What it needs of memory it has before.
 pub trait Reset<B: Bank, N: Bank> {
@@ -62,49 +71,54 @@ pub fn run_again<
     G: Gate + Sync,
 >(
     rt: &R,
-    alloc: Global,
-    words: &[Bytes],
-    source: &mut S,
-    sink: &mut K,
-    bank: B,
-    kit: Vec<KitEntry<C>>,
+    first: &mut Session<S, K>,
+    service: Service<B, C>,
     reset: &mut T,
-    next_words: &[Bytes],
-    next_source: &mut S,
-    next_sink: &mut K,
+    second: &mut Session<S, K>,
     next_kit: Vec<KitEntry<D>>,
     gate: &G,
 ) -> (u8, (u8, N))
-    requires room { bank_size ≤ B.size bank }
-    requires asked { All (λ (e : Entry C). C.asked e.check < 2 ^ 62) kit.items }
+    requires may_start { MayStart B.Bank C.Validator service }
     requires next_asked { All (λ (e : Entry D). D.asked e.check < 2 ^ 62) next_kit.items }
     // Each run does what its word says. Each critical table that the second one registers comes back from the first one's history:
     // from the place where the reset came, and if that was after a session that ended, from its end.
     ensures recovers { (bank_then : B) × (next : N)
         × (T.between_calls → B.tells_moments → N.tells → B.may_leave bank_then (N.now next))
-        × ((word next_word : CommandWord) (admit next_admit : Admitted) → Asks words.now word admit → Asks next_words.now next_word next_admit
-        → (first : Runs word B.Bank C.verdict (opening_of B.Bank bank kit.items admit) (ran S.Source K.Sink (source.old, sink.old) (source.new, sink.new) (result.0, bank_then)))
-        × (second : Runs next_word N.Bank D.verdict (opening_of N.Bank next next_kit.items next_admit)
-        (ran S.Source K.Sink (next_source.old, next_sink.old) (next_source.new, next_sink.new) result.1))
+        × ((word next_word : CommandWord) (admit next_admit : Admitted) → Asks first.old.words.items word admit → Asks second.old.words.items next_word next_admit
+        → (run : Runs word B.Bank C.verdict (opening_by B.Bank service admit)
+        (ran S.Source K.Sink (first.old.source, first.old.sink) (first.new.source, first.new.sink) (result.0, bank_then)))
+        × (next_run : Runs next_word N.Bank D.verdict (opening_of N.Bank next next_kit.items next_admit)
+        (ran S.Source K.Sink (second.old.source, second.old.sink) (second.new.source, second.new.sink) result.1))
         × (PlaysSession word → B.tells_moments → N.tells
-        → RecoversBoth (state_from (B.now bank) kit.items admit) first.entries (N.now next) next_kit.items next_admit second.entries)
-        × (PlaysSession word → B.tells_moments → N.tells → B.may_leave bank_then (N.now next) → IsEnded result.0 ⊎ StaysUp first.entries
-        → RecoversLast (state_from (B.now bank) kit.items admit) first.entries (N.now next) next_kit.items next_admit second.entries)) }
+        → RecoversBoth (state_from (B.now service.bank) service.kit.items admit) run.entries (N.now next) next_kit.items next_admit next_run.entries)
+        × (PlaysSession word → B.tells_moments → N.tells → B.may_leave bank_then (N.now next) → IsEnded result.0 ⊎ StaysUp run.entries
+        → RecoversLast (state_from (B.now service.bank) service.kit.items admit) run.entries (N.now next) next_kit.items next_admit next_run.entries)) }
+    ensures same_words { (first.new.words ≡ first.old.words) × (second.new.words ≡ second.old.words) }
     ensures room { bank_size ≤ N.size result.1.1 }
 {
-    let began = Snapshot::of(&bank);
-    let (status, bank) = run(rt, alloc, words, source, sink, bank, kit, gate);
-    let next = reset.reset(bank, &began);
+    let alloc = service.alloc;
+    let began = Snapshot::of(&service.bank);
+    let (status, bank) = run(
+        rt,
+        &first.words,
+        &mut first.source,
+        &mut first.sink,
+        service,
+        gate,
+    );
+    let next = Service {
+        alloc,
+        bank: reset.reset(bank, &began),
+        kit: next_kit,
+    };
     (
         status,
         run(
             rt,
-            alloc,
-            next_words,
-            next_source,
-            next_sink,
+            &second.words,
+            &mut second.source,
+            &mut second.sink,
             next,
-            next_kit,
             gate,
         ),
     )

@@ -1,29 +1,27 @@
 //! Plays the records of an input with a thread for each actor, and reports the images that application 16 got.
 
-ghost use Rattle.std.specs.Prelude.{◌≡◌, ◌≢◌, ◌≤◌, ◌<◌, ◌^◌, [], false, All, IfOk, IfErr};
+ghost use Rattle.std.specs.Prelude.{◌≡◌, ◌≢◌, ◌≤◌, [], IfOk, IfErr};
 ghost use Rattle.tbl_kinds.specs.Places.{bank_size};
-ghost use Rattle.tbl_kinds.specs.StoreSteps.{Shows};
-ghost use Rattle.cds_layout.specs.Images.{store_of};
-ghost use Rattle.tbl_core.specs.Service.{StartCounted};
-ghost use Rattle.tbl_outside.specs.Bank.{LeavesOnly};
 ghost use Rattle.tbl_outside.specs.Streams.{ReadsToEnd};
 ghost use Rattle.table_watch.specs.Report.{report};
-ghost use Rattle.tbl_outside.specs.declared.validator.KitEntry.{KitEntry as Entry};
 ghost use Rattle.tbl_session.specs.Openings.{Opening};
-ghost use Rattle.tbl_session.specs.Session.{opening_of, ran};
+ghost use Rattle.tbl_session.specs.Session.{ran};
 ghost use Rattle.tbl_history.specs.Serving.{Serves};
 ghost use Rattle.tbl_top.specs.Collecting.{HasTaken};
-ghost use Rattle.tbl_top.specs.Failures.{TellsFailures};
 ghost use Rattle.tbl_top.specs.Finishing.{status_of};
 ghost use Rattle.tbl_top.specs.Listing.{TellsText};
-ghost use Rattle.tbl_top.specs.Watching.{ReportsAs, Watches, fault_of};
+ghost use Rattle.tbl_top.specs.Starting.{MayStart, HasBegun, IsFresh, FailsToStart, opening_by};
+ghost use Rattle.tbl_top.specs.Watching.{ReportsAs, fault_of};
+ghost use Rattle.tbl_top.specs.Words.{Outcome};
 ghost use Rattle.tbl_top.specs.declared.playback.Standing.TheVariants.{Open, SinkFailed};
+ghost use Rattle.tbl_top.specs.declared.words.Word.TheVariants.{Watch as WatchWord};
 
 use crate::collecting::Collector;
 use crate::crewing::standing_behind;
 use crate::finishing::{DONE, NO_MEMORY, end_status, unbegun_status};
 use crate::listing::write_text;
 use crate::playback::Standing;
+use crate::service::Service;
 use std::alloc::Global;
 use std::sync::Wait;
 use std::thread::Threads;
@@ -32,7 +30,7 @@ use tbl_core::{Core, StartFault, StepFault};
 use tbl_crew::{WatchEnd, crew_watched};
 use tbl_history::start;
 use tbl_kinds::{Admit, Memory};
-use tbl_outside::{Back, Bank, Gate, KitEntry, Sink, Source, Validator};
+use tbl_outside::{Back, Bank, Gate, Sink, Source, Validator};
 
 /// The fault as which what ended a watched crew counts.
 fn fault_of(end: Option<WatchEnd>) -> Option<StepFault>
@@ -68,6 +66,15 @@ fn tell_report<K: Sink>(
     }
 }
 
+/// A session with a watcher before anything was read.
+#[derive(Drop)]
+struct Begun<B: Bank, C: Validator> {
+    alloc: Global,
+    core: Core<B, C>,
+    collector: Collector,
+    watch: Watch,
+}
+
 /// Reads the records of an input, plays them with a thread for each actor, and writes the report. The status, and the core as it is.
 fn play_watched<
     R: Threads + Wait + Sync,
@@ -76,26 +83,20 @@ fn play_watched<
     S: Source,
     K: Sink,
     G: Gate + Sync,
->(
-    rt: &R,
-    alloc: Global,
-    core: Core<B, C>,
-    mut collector: Collector,
-    watch: Watch,
-    source: &mut S,
-    sink: &mut K,
-    gate: &G,
-) -> (u8, Core<B, C>)
-    requires live { core.state.ended ≡ false }
-    requires empty { core.entries ≡ [] }
-    requires fresh { HasTaken Open [] 0 [] collector }
-    requires unwatched { watch ≡ [] }
-    ensures watches { (o : Opening B C) → Serves B.Bank C.verdict o core
-        → Watches B.Bank C.verdict o (ran S.Source K.Sink (source.old, sink.old) (source.new, sink.new) (result.0, result.1.state.store.bank)) }
-    ensures failures { TellsFailures (ran S.Source K.Sink (source.old, sink.old) (source.new, sink.new) (result.0, result.1.state.store.bank)) }
+>(rt: &R, begun: Begun<B, C>, source: &mut S, sink: &mut K, gate: &G) -> (u8, Core<B, C>)
+    requires begun { HasBegun B.Bank C.verdict begun.core }
+    requires fresh { HasTaken Open [] 0 [] begun.collector }
+    requires unwatched { begun.watch ≡ [] }
+    ensures outcome { (o : Opening B C) → Serves B.Bank C.verdict o begun.core
+        → Outcome WatchWord B.Bank C.verdict o (ran S.Source K.Sink (source.old, sink.old) (source.new, sink.new) (result.0, result.1.state.store.bank)) }
     ensures once { ReadsToEnd (S.how_far source.old) (S.how_far source.new) }
-    ensures not_usage { result.0 ≢ 2 }
 {
+    let Begun {
+        alloc,
+        core,
+        mut collector,
+        watch,
+    } = begun;
     let (read, read_failed) = collector.read_all(source);
     let is_whole = collector.is_whole();
     let (core, watch, end) = crew_watched(rt, alloc, core, collector.scripts(), gate, watch);
@@ -114,28 +115,27 @@ fn make_both(alloc: Global) -> Result<(Collector, Watch), Memory>
 
 /// A session before anything was read, over a service at its start. An error gives the bank back.
 fn begin_watch<B: Bank, C: Validator>(
-    alloc: Global,
-    bank: B,
-    kit: Vec<KitEntry<C>>,
+    service: Service<B, C>,
     admit: Admit,
-) -> Result<(Core<B, C>, Collector, Watch), Back<StartFault, B>>
-    requires room { bank_size ≤ B.size bank }
-    requires asked { All (λ (e : Entry C). C.asked e.check < 2 ^ 62) kit.items }
-    ensures empty { IfOk result (λ begun. begun.0.entries ≡ []) }
-    ensures live { IfOk result (λ begun. begun.0.state.ended ≡ false) }
-    ensures serves { IfOk result (λ begun. Serves B.Bank C.verdict (opening_of B.Bank bank kit.items admit) begun.0) }
-    ensures fresh { IfOk result (λ begun. HasTaken Open [] 0 [] begun.1) }
-    ensures unwatched { IfOk result (λ begun. begun.2 ≡ []) }
-    ensures crash_err { IfErr result (λ back. B.tells_moments → LeavesOnly B.clock B.left_since bank back.bank (λ image. Shows (store_of (B.now bank)) (store_of image))) }
-    ensures cause { IfErr result (λ back. StartCounted B.Bank bank back.bank back.cause) }
-    ensures room_err { IfErr result (λ back. bank_size ≤ B.size back.bank) }
+) -> Result<Begun<B, C>, Back<StartFault, B>>
+    requires may_start { MayStart B.Bank C.Validator service }
+    ensures begun { IfOk result (λ begun. IsFresh B.Bank C.verdict (opening_by B.Bank service admit) begun.core) }
+    ensures fresh { IfOk result (λ begun. HasTaken Open [] 0 [] begun.collector) }
+    ensures unwatched { IfOk result (λ begun. begun.watch ≡ []) }
+    ensures err { IfErr result (λ back. FailsToStart B.Bank service.bank back.cause back.bank) }
 {
+    let Service { alloc, bank, kit } = service;
     match make_both(alloc) {
         Err(_) => Err(Back {
             cause: StartFault::Memory,
             bank,
         }),
-        Ok((collector, watch)) => Ok((start(alloc, bank, kit, admit)?, collector, watch)),
+        Ok((collector, watch)) => Ok(Begun {
+            alloc,
+            core: start(alloc, bank, kit, admit)?,
+            collector,
+            watch,
+        }),
     }
 }
 
@@ -147,30 +147,16 @@ pub(crate) fn run_watch<
     S: Source,
     K: Sink,
     G: Gate + Sync,
->(
-    rt: &R,
-    alloc: Global,
-    source: &mut S,
-    sink: &mut K,
-    bank: B,
-    kit: Vec<KitEntry<C>>,
-    admit: Admit,
-    gate: &G,
-) -> (u8, B)
-    requires room { bank_size ≤ B.size bank }
-    requires asked { All (λ (e : Entry C). C.asked e.check < 2 ^ 62) kit.items }
-    ensures not_usage { result.0 ≢ 2 }
-    ensures watches { Watches B.Bank C.verdict (opening_of B.Bank bank kit.items admit) (ran S.Source K.Sink (source.old, sink.old) (source.new, sink.new) result) }
-    ensures failures { TellsFailures (ran S.Source K.Sink (source.old, sink.old) (source.new, sink.new) result) }
+>(rt: &R, source: &mut S, sink: &mut K, service: Service<B, C>, admit: Admit, gate: &G) -> (u8, B)
+    requires may_start { MayStart B.Bank C.Validator service }
+    ensures outcome { Outcome WatchWord B.Bank C.verdict (opening_by B.Bank service admit) (ran S.Source K.Sink (source.old, sink.old) (source.new, sink.new) result) }
     ensures once { ReadsToEnd (S.how_far source.old) (S.how_far source.new) }
     ensures room { bank_size ≤ B.size result.1 }
 {
-    match begin_watch(alloc, bank, kit, admit) {
+    match begin_watch(service, admit) {
         Err(Back { cause, bank }) => (unbegun_status(cause), bank),
-        Ok((core, collector, watch)) => {
-            let (status, core) = play_watched(
-                rt, alloc, core, collector, watch, source, sink, gate,
-            );
+        Ok(begun) => {
+            let (status, core) = play_watched(rt, begun, source, sink, gate);
             (status, core.end())
         }
     }

@@ -11,7 +11,7 @@ use test_tables::{CaseFault, Row, bank_in, same_bytes, same_text};
 /// Compares a status, and what each actor was told, in any order between actors.
 fn compare_by_actor(row: &Row, session: &Session, status: u8) -> Result<(), CaseFault> {
     row.same_number(6, u64::from(status))?;
-    let came = by_actor(row.alloc(), session.sink.taken())?;
+    let came = by_actor(row.alloc(), session.given.sink.taken())?;
     let wanted = by_actor(row.alloc(), &row.bytes(7)?)?;
     same_bytes(row.alloc(), &came, &wanted)
 }

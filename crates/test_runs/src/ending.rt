@@ -9,7 +9,7 @@ use std::thread::Threads;
 use tbl_fakes::{CalmBank, MemSink, MemSource, OpenGate};
 use tbl_kinds::{Bytes, Memory};
 use tbl_outside::{KitEntry, Sink, Source};
-use tbl_top::run;
+use tbl_top::{Service, run};
 use test_tables::{CaseFault, Row};
 
 /// How many bytes the bank has.
@@ -43,7 +43,14 @@ pub(crate) fn status_of<R: Threads + Wait + Sync, S: Source, K: Sink>(
 ) -> Result<u8, Memory> {
     let bank = bank(alloc)?;
     let kit: Vec<KitEntry> = Vec::new(alloc);
-    let (status, _bank) = run(rt, alloc, words, source, sink, bank, kit, &OpenGate);
+    let (status, _bank) = run(
+        rt,
+        words,
+        source,
+        sink,
+        Service { alloc, bank, kit },
+        &OpenGate,
+    );
     Ok(status)
 }
 

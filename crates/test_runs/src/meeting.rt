@@ -9,7 +9,7 @@ use test_tables::{CaseFault, Row, new_bank};
 
 /// Compares a status and an output: one of two, since either thread may have the first turn.
 fn compare(row: &Row, session: &Session, status: u8) -> Result<(), CaseFault> {
-    if session.sink.taken() == row.bytes(4)?.as_slice() {
+    if session.given.sink.taken() == row.bytes(4)?.as_slice() {
         return row.same_number(2, u64::from(status));
     }
     session.compare(row, 2, status)

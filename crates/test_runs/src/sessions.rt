@@ -11,7 +11,7 @@ use std::thread::Threads;
 use tbl_fakes::{MemBank, MemSink, MemSource, OpenGate};
 use tbl_kinds::{Bytes, Memory};
 use tbl_outside::Gate;
-use tbl_top::{BetweenCalls, run, run_again};
+use tbl_top::{BetweenCalls, Service, run, run_again};
 use test_tables::{CaseFault, Row, bank_in, count_of, kept};
 
 /// For how many bytes the sink has room beside those that are wanted.
@@ -20,9 +20,7 @@ const MORE_OUTPUT: u32 = 512;
 /// What a session is given beside its bank.
 #[derive(Drop)]
 pub(crate) struct Session {
-    words: Vec<Bytes>,
-    source: MemSource,
-    pub(crate) sink: MemSink,
+    pub(crate) given: tbl_top::Session<MemSource, MemSink>,
 }
 
 /// The words of a text, each as the bytes that a program is given.
@@ -64,10 +62,13 @@ impl Session {
         source: MemSource,
         sink: MemSink,
     ) -> Result<Session, CaseFault> {
+        let words = words_of(row.alloc(), words)?;
         Ok(Session {
-            words: words_of(row.alloc(), words)?,
-            source,
-            sink,
+            given: tbl_top::Session {
+                words,
+                source,
+                sink,
+            },
         })
     }
 
@@ -84,12 +85,10 @@ impl Session {
         let kit = shipped_entries(alloc)?;
         Ok(run(
             rt,
-            alloc,
-            &self.words,
-            &mut self.source,
-            &mut self.sink,
-            bank,
-            kit,
+            &self.given.words,
+            &mut self.given.source,
+            &mut self.given.sink,
+            Service { alloc, bank, kit },
             gate,
         ))
     }
@@ -108,16 +107,10 @@ impl Session {
         let next_kit = shipped_entries(alloc)?;
         let (status, (next_status, _bank)) = run_again(
             rt,
-            alloc,
-            &self.words,
-            &mut self.source,
-            &mut self.sink,
-            bank,
-            kit,
+            &mut self.given,
+            Service { alloc, bank, kit },
             &mut BetweenCalls,
-            &next.words,
-            &mut next.source,
-            &mut next.sink,
+            &mut next.given,
             next_kit,
             &OpenGate,
         );
@@ -129,7 +122,7 @@ impl Session {
         requires { at ≤ 8 }
     {
         row.same_number(at, u64::from(status))?;
-        row.same_bytes(at + 1, self.sink.taken())
+        row.same_bytes(at + 1, self.given.sink.taken())
     }
 
     /// Plays it over a bank, which comes back, and compares the status and the output with two cells of a row.

@@ -1,9 +1,16 @@
+use Rattle.std.proofs.Common.{rules}
 use Rattle.tbl_core.proofs.Starting.{stays_shown}
 use Rattle.tbl_top.proofs.crewing.begin_crew.Goals as goal
 
 -- out of memory before the service began, nothing was asked of the bank
-pub returns-in-Err-clause-crash_err : goal.returns-in-Err-clause-crash_err
-returns-in-Err-clause-crash_err g c = let b = g.B.Bank in stays_shown b g.met.B.Bank.leaves_only_now g.met.B.Bank.only_now c.args.bank
+pub returns-in-Err-clause-err : goal.returns-in-Err-clause-err
+returns-in-Err-clause-err g c = let b = g.B.Bank in record {
+  crash = stays_shown b g.met.B.Bank.leaves_only_now g.met.B.Bank.only_now c.args.service.bank;
+  counted = search rules;
+  room = c.requires.may_start.room;
+}
 
-pub returns-in_ok-begin-in-Ok-clause-serves : goal.returns-in_ok-begin-in-Ok-clause-serves
-returns-in_ok-begin-in-Ok-clause-serves g c = rw c.playback.ensures c.in_ok-begin-in-Ok.ensures.serves
+pub returns-in_ok-begin-in-Ok-clause-begun : goal.returns-in_ok-begin-in-Ok-clause-begun
+returns-in_ok-begin-in-Ok-clause-begun g c =
+    let begun = c.in_ok-begin-in-Ok.ensures in
+    rw c.playback.ensures (record { empty = begun.unfed.empty; live = begun.unfed.live; serves = begun.serves })

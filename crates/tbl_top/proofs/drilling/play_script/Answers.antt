@@ -32,3 +32,6 @@ records-preserved g c =
       continues = then_continues g.B.Bank g.C.Validator.verdict _ _ _ c.records.invariant.continues c.in-Ok-None.ensures.continues;
       live = subst (λ (s : Option Standing). TellsService s c.step.new.core) c.in-Ok-None.field-0-is c.in-Ok-None.ensures.boot;
     }
+
+pub step-requires-clause-may_play : goal.step-requires-clause-may_play
+step-requires-clause-may_play g c = record { live = c.records.invariant.live; room = omega (arith, c.records.invariant.few, ap (λ (script : List Pair). length script) c.in-Some.ensures) }

@@ -5,7 +5,7 @@ use Rattle.tbl_core.proofs.Starting.{stays_shown}
 use Rattle.tbl_core.specs.declared.service.StartFault.TheVariants.{Memory as NoMemory}
 use Rattle.tbl_history.proofs.Laws.{Laws}
 use Rattle.tbl_history.proofs.ServingLemmas.{serves_on}
-use Rattle.tbl_session.specs.Session.{opening_of}
+use Rattle.tbl_top.specs.Starting.{opening_by}
 use Rattle.tbl_top.specs.Drilling.{unread}
 use Rattle.tbl_top.proofs.DrillLemmas.{drilled, undrilled}
 use Rattle.tbl_history.proofs.Openings.{first_opening}
@@ -15,25 +15,25 @@ use Rattle.tbl_top.proofs.drilling.run_drill.Goals as goal
 pub returns-in_default-clause-drill : goal.returns-in_default-clause-drill
 returns-in_default-clause-drill g c = λ left faults.
     let b = g.B.Bank in
-    let kit = c.args.kit.items in
+    let service = c.args.service in
     let laws : Laws b = record { tells_both = g.met.B.Bank.tells_both; leaves_now = g.met.B.Bank.leaves_now; leaves_only_now = g.met.B.Bank.leaves_only_now; counts_now = g.met.B.Bank.counts_now } in
-    undrilled c.args.seed c.args.rounds b laws g.C.Validator.verdict (opening_of b c.args.bank kit c.args.admit) (first_opening (b.now c.args.bank) kit c.args.admit)
-    (unread g.K.Sink left faults c.args.sink.now c.args.sink.now (1, c.args.bank))
-    (stays_shown b g.met.B.Bank.leaves_only_now g.met.B.Bank.only_now c.args.bank) refl refl NoMemory (refl, refl) refl
+    undrilled c.args.seed c.args.rounds b laws g.C.Validator.verdict (opening_by b service c.args.admit) (first_opening (b.now service.bank) service.kit.items c.args.admit)
+    (unread g.K.Sink left faults c.args.sink.now c.args.sink.now (1, c.args.service.bank))
+    (stays_shown b g.met.B.Bank.leaves_only_now g.met.B.Bank.only_now c.args.service.bank) refl refl NoMemory (refl, refl) refl
 
 pub returns-in-Err-clause-drill : goal.returns-in-Err-clause-drill
 returns-in-Err-clause-drill g c = λ left faults.
     let b = g.B.Bank in
-    let kit = c.args.kit.items in
+    let service = c.args.service in
     let laws : Laws b = record { tells_both = g.met.B.Bank.tells_both; leaves_now = g.met.B.Bank.leaves_now; leaves_only_now = g.met.B.Bank.leaves_only_now; counts_now = g.met.B.Bank.counts_now } in
-    undrilled c.args.seed c.args.rounds b laws g.C.Validator.verdict (opening_of b c.args.bank kit c.args.admit) (first_opening (b.now c.args.bank) kit c.args.admit)
+    undrilled c.args.seed c.args.rounds b laws g.C.Validator.verdict (opening_by b service c.args.admit) (first_opening (b.now service.bank) service.kit.items c.args.admit)
     (unread g.K.Sink left faults c.args.sink.now c.args.sink.now (c.unbegun_status.result, c.in-Err.field-0.bank))
     c.in-Err.ensures.crash_err refl refl c.in-Err.field-0.cause c.in-Err.ensures.cause c.unbegun_status.ensures
 
 pub returns-clause-drill : goal.returns-clause-drill
 returns-clause-drill g c = λ left faults.
     let b = g.B.Bank in
-    let o = opening_of b c.args.bank c.args.kit.items c.args.admit in
+    let o = opening_by b c.args.service c.args.admit in
     let core = c.play_script-standing.new.core in
     let played = c.play_script-standing.ensures in
     let told = c.tell_summary-status.ensures in

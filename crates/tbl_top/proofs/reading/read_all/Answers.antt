@@ -2,27 +2,24 @@ use Rattle.std.proofs.Common.{◌++◌, ◌∙◌, length, arith, ap, refl, subs
 use Rattle.std.proofs.lemmas.List.{length-append}
 use Rattle.std.specs.Io.KnownBytes.{prepend_known}
 use Rattle.tbl_outside.proofs.Streams.{read_more}
-use Rattle.tbl_history.proofs.ServingLemmas.{continues_same, then_continues}
 use Rattle.tbl_top.specs.Playing.{bytes_fed}
-use Rattle.tbl_top.specs.Standing.{TellsCause}
+use Rattle.tbl_top.specs.PlaysOn.{PlaysOn}
 use Rattle.tbl_top.specs.declared.playback.Standing.{Standing}
 use Rattle.tbl_top.proofs.ReadingLemmas.{left_at_first, begins_empty, session_bound}
+use Rattle.tbl_top.proofs.PlaysOnLemmas.{played_first, played_more, plays_after}
 use Rattle.tbl_top.proofs.reading.read_all.Goals as goal
 
 pub reads-init : goal.reads-init
 reads-init g c = record {
-  is_open = c.requires.is_open;
+  is_open = c.requires.unfed.is_open;
   room = refl;
-  left = left_at_first c.args.player.now (g.S.Source.left c.args.source.now) c.requires.none;
+  left = left_at_first c.args.player.now (g.S.Source.left c.args.source.now) c.requires.unfed.none;
   many = omega arith;
-  begun = begins_empty c.args.player.now c.requires.none;
-  session = c.requires.session;
-  continues = continues_same g.B.Bank g.C.Validator.verdict c.args.player.now.core;
-  live = c.requires.live;
-  written = λ first written. written;
+  begun = begins_empty c.args.player.now c.requires.unfed.none;
+  session = c.requires.unfed.session;
+  played = played_first g.B.Bank g.C.Validator.verdict g.K.Sink (c.args.player.now.core, c.args.sink.now) c.requires.unfed.live;
   once = λ going. going;
   source_still = refl;
-  sink_still = refl;
 }
 
 pub returns-in-Some-clause-reads : goal.returns-in-Some-clause-reads
@@ -36,8 +33,8 @@ returns-in-Some-clause-reads g c =
 pub unreachable-requires : goal.unreachable-requires
 unreachable-requires g c = omega (arith, session_bound c.reads.player c.reads.invariant.session c.reads.invariant.begun)
 
-pub returns-in-Some-clause-continues : goal.returns-in-Some-clause-continues
-returns-in-Some-clause-continues g c = then_continues g.B.Bank g.C.Validator.verdict _ _ _ c.reads.invariant.continues c.in-Some.ensures.continues
+pub returns-in-Some-clause-plays : goal.returns-in-Some-clause-plays
+returns-in-Some-clause-plays g c = plays_after g.B.Bank g.C.Validator.verdict g.K.Sink c.read_piece.new.player.standing _ _ _ c.reads.invariant.played c.in-Some.ensures.plays
 
 pub reads-preserved : goal.reads-preserved
 reads-preserved g c = record {
@@ -55,14 +52,19 @@ reads-preserved g c = record {
         c.in_default.ensures.reads.2.some,
       );
   begun = search rules;
-  session = search rules;
-  continues = then_continues g.B.Bank g.C.Validator.verdict _ _ _ c.reads.invariant.continues c.in_default.ensures.continues;
-  live = search rules;
-  written = search rules;
-  once = λ going. c.in_default.ensures.goes_on refl (c.reads.invariant.once going);
-  source_still = c.in_default.ensures.source_cause ∙ c.reads.invariant.source_still;
-  sink_still = subst (λ (s : Standing). TellsCause s (g.K.Sink.faults c.reads.sink) (g.K.Sink.faults c.read_piece.new.sink)) c.in_default.ensures.reads.2.is_open c.in_default.ensures.cause ∙ c.reads.invariant.sink_still;
+  session = c.in_default.ensures.plays.session;
+  played = played_more g.B.Bank g.C.Validator.verdict g.K.Sink (c.args.player.now.core, c.args.sink.now) (c.reads.player.core, c.reads.sink) (c.read_piece.new.player.core, c.read_piece.new.sink) c.reads.invariant.played
+      (subst (λ (s : Standing). PlaysOn g.B.Bank g.C.Validator.verdict g.K.Sink s (c.reads.player.core, c.reads.sink) (c.read_piece.new.player.core, c.read_piece.new.sink)) c.in_default.ensures.reads.2.is_open c.in_default.ensures.plays);
+  once = λ going. c.in_default.ensures.source.goes_on refl (c.reads.invariant.once going);
+  source_still = c.in_default.ensures.source.cause ∙ c.reads.invariant.source_still;
 }
 
-pub returns-in-Some-clause-once : goal.returns-in-Some-clause-once
-returns-in-Some-clause-once g c going = c.in-Some.ensures.once (c.reads.invariant.once going)
+pub returns-in-Some-clause-source : goal.returns-in-Some-clause-source
+returns-in-Some-clause-source g c =
+    let one = c.in-Some.ensures.source in
+    record {
+      cause = search rules;
+      goes_on = λ is. absurd cc;
+      once = λ going. one.once (c.reads.invariant.once going);
+      count = omega (arith, c.reads.invariant.source_still, one.count);
+    }

@@ -1,6 +1,7 @@
 use Rattle.std.proofs.Common.{None, refl, sym, subst}
 use Rattle.tbl_outside.proofs.Streams.{unread}
-use Rattle.tbl_session.specs.Session.{opening_of, ran}
+use Rattle.tbl_session.specs.Session.{ran}
+use Rattle.tbl_top.specs.Starting.{opening_by}
 use Rattle.maker_words.proofs.Answering.{makes_not_usage, describes_not_usage}
 use Rattle.tbl_top.specs.InTurn.{InTurn}
 use Rattle.tbl_top.specs.Words.{Completes, HasThreads, Outcome}
@@ -8,12 +9,13 @@ use Rattle.tbl_top.specs.declared.words.Word.{Word}
 use Rattle.tbl_top.proofs.CompletenessLemmas.{complete}
 use Rattle.tbl_top.proofs.DrillLemmas.{drills_not_usage, drills_through}
 use Rattle.tbl_top.proofs.ListingLemmas.{lists_not_usage, lists_through}
+use Rattle.tbl_top.proofs.StatusLemmas.{known_not_usage}
 use Rattle.tbl_top.proofs.session.do_word.Goals as goal
 
 -- ---- play
 
 pub returns-in-Play-clause-usage : goal.returns-in-Play-clause-usage
-returns-in-Play-clause-usage g c two = absurd (c.play_in_order.ensures.not_usage two)
+returns-in-Play-clause-usage g c two = absurd (known_not_usage _ c.play_in_order.ensures.outcome.0.known two)
 
 pub returns-in-Play-clause-threads : goal.returns-in-Play-clause-threads
 returns-in-Play-clause-threads g c threads = absurd (subst HasThreads c.in-Play.is threads)
@@ -22,14 +24,14 @@ pub returns-in-Play-clause-outcome : goal.returns-in-Play-clause-outcome
 returns-in-Play-clause-outcome g c other =
     let b = g.B.Bank in
     let r = ran g.S.Source g.K.Sink (c.args.source.now, c.args.sink.now) (c.play_in_order.new.source, c.play_in_order.new.sink) c.play_in_order.result in
-    subst (λ (w : Word). Outcome w b g.C.Validator.verdict (opening_of b c.args.bank c.args.kit.items c.args.admit) r) (sym c.in-Play.is) (c.play_in_order.ensures.session, c.play_in_order.ensures.failures)
+    subst (λ (w : Word). Outcome w b g.C.Validator.verdict (opening_by b c.args.service c.args.admit) r) (sym c.in-Play.is) c.play_in_order.ensures.outcome
 
 pub returns-in-Play-clause-complete : goal.returns-in-Play-clause-complete
 returns-in-Play-clause-complete g c other =
     let b = g.B.Bank in
     let r = ran g.S.Source g.K.Sink (c.args.source.now, c.args.sink.now) (c.play_in_order.new.source, c.play_in_order.new.sink) c.play_in_order.result in
-    subst (λ (w : Word). Completes w b c.args.bank r) (sym c.in-Play.is)
-    (complete (InTurn r) b g.C.Validator.verdict (opening_of b c.args.bank c.args.kit.items c.args.admit) r c.play_in_order.ensures.session)
+    subst (λ (w : Word). Completes w b c.args.service.bank r) (sym c.in-Play.is)
+    (complete (InTurn r) b g.C.Validator.verdict (opening_by b c.args.service c.args.admit) r c.play_in_order.ensures.outcome.0)
 
 -- ---- store
 
@@ -43,13 +45,13 @@ pub returns-in-Store-clause-outcome : goal.returns-in-Store-clause-outcome
 returns-in-Store-clause-outcome g c other =
     let b = g.B.Bank in
     let r = ran g.S.Source g.K.Sink (c.args.source.now, c.args.sink.now) (c.args.source.now, c.list_store-status.new.sink) (c.list_store-status.result, c.list_store-status.new.bank) in
-    subst (λ (w : Word). Outcome w b g.C.Validator.verdict (opening_of b c.args.bank c.args.kit.items c.args.admit) r) (sym c.in-Store.is) c.list_store-status.ensures.listing
+    subst (λ (w : Word). Outcome w b g.C.Validator.verdict (opening_by b c.args.service c.args.admit) r) (sym c.in-Store.is) c.list_store-status.ensures.listing
 
 pub returns-in-Store-clause-complete : goal.returns-in-Store-clause-complete
 returns-in-Store-clause-complete g c other =
     let b = g.B.Bank in
     let r = ran g.S.Source g.K.Sink (c.args.source.now, c.args.sink.now) (c.args.source.now, c.list_store-status.new.sink) (c.list_store-status.result, c.list_store-status.new.bank) in
-    subst (λ (w : Word). Completes w b c.args.bank r) (sym c.in-Store.is) (lists_through b _ _ _ _ _ c.list_store-status.ensures.listing)
+    subst (λ (w : Word). Completes w b c.args.service.bank r) (sym c.in-Store.is) (lists_through b _ _ _ _ _ c.list_store-status.ensures.listing)
 
 -- ---- drill
 
@@ -58,7 +60,7 @@ run_drill-requires-clause-few g c = c.requires.few c.in-Drill.seed c.in-Drill.ro
 
 pub returns-in-Drill-clause-usage : goal.returns-in-Drill-clause-usage
 returns-in-Drill-clause-usage g c two =
-    let o = opening_of g.B.Bank c.args.bank c.args.kit.items c.args.admit in
+    let o = opening_by g.B.Bank c.args.service c.args.admit in
     absurd (drills_not_usage c.in-Drill.seed c.in-Drill.rounds g.B.Bank g.C.Validator.verdict o _ (c.run_drill.ensures.drill None 0) two)
 
 pub returns-in-Drill-clause-threads : goal.returns-in-Drill-clause-threads
@@ -68,15 +70,15 @@ pub returns-in-Drill-clause-outcome : goal.returns-in-Drill-clause-outcome
 returns-in-Drill-clause-outcome g c other =
     let b = g.B.Bank in
     let r = ran g.S.Source g.K.Sink (c.args.source.now, c.args.sink.now) (c.args.source.now, c.run_drill.new.sink) c.run_drill.result in
-    subst (λ (w : Word). Outcome w b g.C.Validator.verdict (opening_of b c.args.bank c.args.kit.items c.args.admit) r) (sym c.in-Drill.is)
+    subst (λ (w : Word). Outcome w b g.C.Validator.verdict (opening_by b c.args.service c.args.admit) r) (sym c.in-Drill.is)
     (c.run_drill.ensures.drill (g.S.Source.left c.args.source.now) (g.S.Source.faults c.args.source.now))
 
 pub returns-in-Drill-clause-complete : goal.returns-in-Drill-clause-complete
 returns-in-Drill-clause-complete g c other =
     let b = g.B.Bank in
-    let o = opening_of b c.args.bank c.args.kit.items c.args.admit in
+    let o = opening_by b c.args.service c.args.admit in
     let r = ran g.S.Source g.K.Sink (c.args.source.now, c.args.sink.now) (c.args.source.now, c.run_drill.new.sink) c.run_drill.result in
-    subst (λ (w : Word). Completes w b c.args.bank r) (sym c.in-Drill.is)
+    subst (λ (w : Word). Completes w b c.args.service.bank r) (sym c.in-Drill.is)
     (drills_through c.in-Drill.seed c.in-Drill.rounds b g.C.Validator.verdict o r (c.run_drill.ensures.drill (g.S.Source.left c.args.source.now) (g.S.Source.faults c.args.source.now)))
 
 -- ---- make
@@ -90,15 +92,15 @@ returns-in-Make-clause-threads g c threads = absurd (subst HasThreads c.in-Make.
 pub returns-in-Make-clause-outcome : goal.returns-in-Make-clause-outcome
 returns-in-Make-clause-outcome g c other =
     let b = g.B.Bank in
-    let r = ran g.S.Source g.K.Sink (c.args.source.now, c.args.sink.now) (c.make_input.new.source, c.make_input.new.sink) (c.make_input.result, c.args.bank) in
-    subst (λ (w : Word). Outcome w b g.C.Validator.verdict (opening_of b c.args.bank c.args.kit.items c.args.admit) r) (sym c.in-Make.is)
+    let r = ran g.S.Source g.K.Sink (c.args.source.now, c.args.sink.now) (c.make_input.new.source, c.make_input.new.sink) (c.make_input.result, c.args.service.bank) in
+    subst (λ (w : Word). Outcome w b g.C.Validator.verdict (opening_by b c.args.service c.args.admit) r) (sym c.in-Make.is)
     (record { answers = c.make_input.ensures.answers; made = c.make_input.ensures.made; failures = c.make_input.ensures.failures; untouched = refl })
 
 pub returns-in-Make-clause-complete : goal.returns-in-Make-clause-complete
 returns-in-Make-clause-complete g c other =
     let b = g.B.Bank in
-    let r = ran g.S.Source g.K.Sink (c.args.source.now, c.args.sink.now) (c.make_input.new.source, c.make_input.new.sink) (c.make_input.result, c.args.bank) in
-    subst (λ (w : Word). Completes w b c.args.bank r) (sym c.in-Make.is) c.make_input.ensures.complete
+    let r = ran g.S.Source g.K.Sink (c.args.source.now, c.args.sink.now) (c.make_input.new.source, c.make_input.new.sink) (c.make_input.result, c.args.service.bank) in
+    subst (λ (w : Word). Completes w b c.args.service.bank r) (sym c.in-Make.is) c.make_input.ensures.complete
 
 -- ---- describe
 
@@ -111,15 +113,15 @@ returns-in-Describe-clause-threads g c threads = absurd (subst HasThreads c.in-D
 pub returns-in-Describe-clause-outcome : goal.returns-in-Describe-clause-outcome
 returns-in-Describe-clause-outcome g c other =
     let b = g.B.Bank in
-    let r = ran g.S.Source g.K.Sink (c.args.source.now, c.args.sink.now) (c.describe_input.new.source, c.describe_input.new.sink) (c.describe_input.result, c.args.bank) in
-    subst (λ (w : Word). Outcome w b g.C.Validator.verdict (opening_of b c.args.bank c.args.kit.items c.args.admit) r) (sym c.in-Describe.is)
+    let r = ran g.S.Source g.K.Sink (c.args.source.now, c.args.sink.now) (c.describe_input.new.source, c.describe_input.new.sink) (c.describe_input.result, c.args.service.bank) in
+    subst (λ (w : Word). Outcome w b g.C.Validator.verdict (opening_by b c.args.service c.args.admit) r) (sym c.in-Describe.is)
     (record { answers = c.describe_input.ensures.answers; described = c.describe_input.ensures.described; failures = c.describe_input.ensures.failures; untouched = refl })
 
 pub returns-in-Describe-clause-complete : goal.returns-in-Describe-clause-complete
 returns-in-Describe-clause-complete g c other =
     let b = g.B.Bank in
-    let r = ran g.S.Source g.K.Sink (c.args.source.now, c.args.sink.now) (c.describe_input.new.source, c.describe_input.new.sink) (c.describe_input.result, c.args.bank) in
-    subst (λ (w : Word). Completes w b c.args.bank r) (sym c.in-Describe.is) c.describe_input.ensures.complete
+    let r = ran g.S.Source g.K.Sink (c.args.source.now, c.args.sink.now) (c.describe_input.new.source, c.describe_input.new.sink) (c.describe_input.result, c.args.service.bank) in
+    subst (λ (w : Word). Completes w b c.args.service.bank r) (sym c.in-Describe.is) c.describe_input.ensures.complete
 
 -- ---- crew and watch
 

@@ -1,6 +1,7 @@
 use Rattle.std.proofs.Common.{◌≡◌, inl, inr, refl}
 use Rattle.tbl_outside.proofs.Streams.{unread}
-use Rattle.tbl_session.specs.Session.{opening_of, ran}
+use Rattle.tbl_session.specs.Session.{ran}
+use Rattle.tbl_top.specs.Starting.{opening_by}
 use Rattle.tbl_top.specs.Words.{Completes, HasThreads, Outcome, ReadsNothing}
 use Rattle.tbl_top.proofs.MakerLemmas.{starved, starved_through}
 use Rattle.tbl_top.proofs.WordsLemmas.{drill_rounds, of_found, found_asked}
@@ -14,14 +15,14 @@ returns-in_default-clause-unknown g c alone = inr (refl, c.in_default.ensures.me
 pub returns-in_default-clause-outcome : goal.returns-in_default-clause-outcome
 returns-in_default-clause-outcome g c word admit asks other =
     let b = g.B.Bank in
-    let r = ran g.S.Source g.K.Sink (c.args.source.now, c.args.sink.now) (c.args.source.now, c.args.sink.now) (1, c.args.bank) in
-    starved c.args.words.now c.in_default.ensures.memory b g.C.Validator.verdict (opening_of b c.args.bank c.args.kit.items admit) r refl refl refl (refl, refl) refl word admit asks
+    let r = ran g.S.Source g.K.Sink (c.args.source.now, c.args.sink.now) (c.args.source.now, c.args.sink.now) (1, c.args.service.bank) in
+    starved c.args.words.now c.in_default.ensures.memory b g.C.Validator.verdict (opening_by b c.args.service admit) r refl refl refl (refl, refl) refl word admit asks
 
 pub returns-in_default-clause-complete : goal.returns-in_default-clause-complete
 returns-in_default-clause-complete g c word admit asks other =
     let b = g.B.Bank in
-    let r = ran g.S.Source g.K.Sink (c.args.source.now, c.args.sink.now) (c.args.source.now, c.args.sink.now) (1, c.args.bank) in
-    starved_through c.args.words.now c.in_default.ensures.memory b c.args.bank r refl word admit asks
+    let r = ran g.S.Source g.K.Sink (c.args.source.now, c.args.sink.now) (c.args.source.now, c.args.sink.now) (1, c.args.service.bank) in
+    starved_through c.args.words.now c.in_default.ensures.memory b c.args.service.bank r refl word admit asks
 
 pub returns-in_default-clause-once : goal.returns-in_default-clause-once
 returns-in_default-clause-once g c = unread (g.S.Source.how_far c.args.source.now)
@@ -60,12 +61,12 @@ returns-in-Some-clause-outcome g c word admit asks =
     let b = g.B.Bank in
     let r = ran g.S.Source g.K.Sink (c.args.source.now, c.args.sink.now) (c.do_word.new.source, c.do_word.new.sink) c.do_word.result in
     of_found c.args.words.now c.in-Some.word c.in-Some.admit c.in-Ok.found c.in-Some.is c.in-Ok.ensures.told
-    (λ w lists. ¬ HasThreads w → Outcome w b g.C.Validator.verdict (opening_of b c.args.bank c.args.kit.items lists) r) word admit asks
+    (λ w lists. ¬ HasThreads w → Outcome w b g.C.Validator.verdict (opening_by b c.args.service lists) r) word admit asks
     c.do_word.ensures.outcome
 
 pub returns-in-Some-clause-complete : goal.returns-in-Some-clause-complete
 returns-in-Some-clause-complete g c word admit asks =
     let b = g.B.Bank in
     let r = ran g.S.Source g.K.Sink (c.args.source.now, c.args.sink.now) (c.do_word.new.source, c.do_word.new.sink) c.do_word.result in
-    of_found c.args.words.now c.in-Some.word c.in-Some.admit c.in-Ok.found c.in-Some.is c.in-Ok.ensures.told (λ w lists. ¬ HasThreads w → Completes w b c.args.bank r) word admit asks
+    of_found c.args.words.now c.in-Some.word c.in-Some.admit c.in-Ok.found c.in-Some.is c.in-Ok.ensures.told (λ w lists. ¬ HasThreads w → Completes w b c.args.service.bank r) word admit asks
     c.do_word.ensures.complete

@@ -1,12 +1,17 @@
-use Rattle.std.proofs.Common.{◌≡◌, ap, ◌∙◌, sym, subst, arith}
+use Rattle.std.proofs.Common.{ap, ◌∙◌, sym, subst, arith}
 use Rattle.std.specs.Io.KnownBytes.{IsAtEnd}
-use Rattle.tbl_kinds.specs.Records.{Pair}
 use Rattle.table_watch.specs.Report.{report}
 use Rattle.tbl_session.specs.Session.{ran}
 use Rattle.tbl_crew.specs.Scripts.{script_of, request_count, AllFit}
 use Rattle.tbl_top.proofs.ScriptsLemmas.{scripts_fit, scripts_count, scripts_part}
-use Rattle.tbl_top.proofs.WatchingLemmas.{ends_not_usage, not_sink_failed, watch_failures, watches}
+use Rattle.tbl_top.proofs.WatchingLemmas.{not_sink_failed, watch_failures, watches}
 use Rattle.tbl_top.proofs.watching.play_watched.Goals as goal
+
+pub crew_watched-core-requires-clause-live : goal.crew_watched-core-requires-clause-live
+crew_watched-core-requires-clause-live g c lifetimes outlive = c.requires.begun.1.live
+
+pub crew_watched-core-requires-clause-empty : goal.crew_watched-core-requires-clause-empty
+crew_watched-core-requires-clause-empty g c lifetimes outlive = c.requires.begun.1.empty
 
 pub crew_watched-core-requires-clause-fits : goal.crew_watched-core-requires-clause-fits
 crew_watched-core-requires-clause-fits g c =
@@ -22,33 +27,25 @@ pub tell_report-status-requires : goal.tell_report-status-requires
 tell_report-status-requires g c =
     record { known = rw (c.standing_behind-standing.ensures, c.fault_of.ensures) (not_sink_failed c.crew_watched-core.result.2 c.read_all-read.result.0 c.read_all-read.ensures.input) }
 
-pub returns-clause-watches : goal.returns-clause-watches
-returns-clause-watches g c o serves =
+pub returns-clause-outcome : goal.returns-clause-outcome
+returns-clause-outcome g c o serves =
     let b = g.B.Bank in
     let reads = c.read_all-read.ensures.reads in
     let pairs = reads.2 in
     let scripts = c.scripts.ensures ∙ reads.3 in
     let core = c.crew_watched-core.result.0 in
     let end = c.crew_watched-core.result.2 in
-    let told = c.tell_report-status in
-    watches b g.C.Validator.verdict o c.scripts.result core end c.crew_watched-core.result.1 (c.crew_watched-core.ensures.history o serves)
-    c.read_all-read.result.0 pairs c.read_all-read.new.self.rest reads.0 c.read_all-read.result.1
-    (ran g.S.Source g.K.Sink (c.args.source.now, c.args.sink.now) (c.read_all-read.new.source, told.new.sink) (told.result, core.state.store.bank))
-    (λ i. core.state.store.bank) reads.1 (λ actor. ap (λ s. script_of s actor) scripts ∙ scripts_part pairs reads.4.each actor) reads.4
-    c.read_all-read.ensures.input c.read_all-read.ensures.source_cause told.ensures.count
-    (rw (← c.fault_of.ensures, ← c.standing_behind-standing.ensures, ← c.is_whole-is_whole.ensures) told.ensures.ends)
-    told.ensures.told
-
-pub returns-clause-failures : goal.returns-clause-failures
-returns-clause-failures g c =
-    let reads = c.read_all-read.ensures.reads in
-    let told = c.tell_report-status in
-    watch_failures c.crew_watched-core.result.2 c.read_all-read.result.0 reads.2 c.read_all-read.new.self.rest reads.0 (report c.crew_watched-core.result.1) c.read_all-read.result.1 (IsAtEnd (g.S.Source.left c.read_all-read.new.source))
-    (ran g.S.Source g.K.Sink (c.args.source.now, c.args.sink.now) (c.read_all-read.new.source, told.new.sink) (told.result, c.crew_watched-core.result.0.state.store.bank))
-    reads.4 c.read_all-read.ensures.source_cause
-    (rw (← c.fault_of.ensures, ← c.standing_behind-standing.ensures, ← c.is_whole-is_whole.ensures) told.ensures.ends)
-    told.ensures.told
-
-pub returns-clause-not_usage : goal.returns-clause-not_usage
-returns-clause-not_usage g c =
-    ends_not_usage c.standing_behind-standing.result c.read_all-read.result.1 c.is_whole-is_whole.result c.tell_report-status.result c.tell_report-status.ensures.ends
+    let told = c.tell_report-status in (
+      watches b g.C.Validator.verdict o c.scripts.result core end c.crew_watched-core.result.1 (c.crew_watched-core.ensures.history o serves)
+          c.read_all-read.result.0 pairs c.read_all-read.new.self.rest reads.0 c.read_all-read.result.1
+          (ran g.S.Source g.K.Sink (c.args.source.now, c.args.sink.now) (c.read_all-read.new.source, told.new.sink) (told.result, core.state.store.bank))
+          (λ i. core.state.store.bank) reads.1 (λ actor. ap (λ s. script_of s actor) scripts ∙ scripts_part pairs reads.4.each actor) reads.4
+          c.read_all-read.ensures.input c.read_all-read.ensures.source.cause told.ensures.count
+          (rw (← c.fault_of.ensures, ← c.standing_behind-standing.ensures, ← c.is_whole-is_whole.ensures) told.ensures.ends)
+          told.ensures.told,
+      watch_failures c.crew_watched-core.result.2 c.read_all-read.result.0 reads.2 c.read_all-read.new.self.rest reads.0 (report c.crew_watched-core.result.1) c.read_all-read.result.1 (IsAtEnd (g.S.Source.left c.read_all-read.new.source))
+          (ran g.S.Source g.K.Sink (c.args.source.now, c.args.sink.now) (c.read_all-read.new.source, told.new.sink) (told.result, c.crew_watched-core.result.0.state.store.bank))
+          reads.4 c.read_all-read.ensures.source.cause
+          (rw (← c.fault_of.ensures, ← c.standing_behind-standing.ensures, ← c.is_whole-is_whole.ensures) told.ensures.ends)
+          told.ensures.told,
+    )

@@ -25,8 +25,8 @@ reads-preserved g c = record {
         more.2,
         more.3,
       );
-  once = λ going. c.in_default.ensures.goes_on refl (c.reads.invariant.once going);
-  still = c.in_default.ensures.source_cause ∙ c.reads.invariant.still;
+  once = λ going. c.in_default.ensures.source.goes_on refl (c.reads.invariant.once going);
+  still = c.in_default.ensures.source.cause ∙ c.reads.invariant.still;
 }
 
 pub unreachable-requires : goal.unreachable-requires
@@ -34,5 +34,12 @@ unreachable-requires g c =
     let old = c.reads.invariant.takes in
     omega (arith, old.2, taken_bound old.0 old.3 old.4 c.reads.self old.5)
 
-pub returns-in-Some-clause-once : goal.returns-in-Some-clause-once
-returns-in-Some-clause-once g c going = c.in-Some.ensures.once (c.reads.invariant.once going)
+pub returns-in-Some-clause-source : goal.returns-in-Some-clause-source
+returns-in-Some-clause-source g c =
+    let one = c.in-Some.ensures.source in
+    record {
+      cause = search rules;
+      goes_on = λ is. absurd cc;
+      once = λ going. one.once (c.reads.invariant.once going);
+      count = omega (arith, c.reads.invariant.still, one.count);
+    }

@@ -2,7 +2,6 @@ use Rattle.std.proofs.Common.{[], ◌+◌, length, take, sym, ap, ◌∙◌, ari
 use Rattle.std.specs.Prelude.{true, false}
 use Rattle.std.proofs.lemmas.List.{length-take}
 use Rattle.std.specs.Io.KnownBytes.{prepend_known, IsAtEnd}
-use Rattle.tbl_outside.proofs.Streams.{reads_on, reads_once}
 use Rattle.tbl_top.proofs.ReadingLemmas.{prepend_nothing}
 use Rattle.tbl_top.proofs.CollectingLemmas.{reads_nothing, reads_last}
 use Rattle.tbl_top.proofs.collecting.Collector.read_piece.Goals as goal

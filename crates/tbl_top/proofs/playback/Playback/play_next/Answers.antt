@@ -9,7 +9,7 @@ returns-in-Ok-clause-stream g c =
     let bytes = c.args.bytes.now in
     let at = c.args.at.now in
     played_stream c.args.self.now.entries c.play_record.new.self.entries (record { actor = i.actor; request = c.next_record.new.request }) bytes at i.used
-    c.in-Ok.ensures.plays
+    c.in-Ok.ensures.spelled
     (ap (take i.used) (sym (slice_is bytes at))
     ∙ item_is i.field-0 i.actor c.next_record.new.request i.used (λ pair used. take used (take (length bytes - at) (drop at bytes)) ≡ spelling pair) i.field-0-is i.ensures.spelled)
 

@@ -1,6 +1,6 @@
-use Rattle.std.proofs.Common.{◌≡◌, ◌-◌, ℕ, ◌≤◌, List, length, drop, Option, false}
-use Rattle.tbl_top.specs.Playing.{played_before, IsWritten}
-use Rattle.tbl_history.specs.Serving.{Continues}
+use Rattle.std.proofs.Common.{◌≡◌, ◌-◌, ◌≤◌, length, drop}
+use Rattle.tbl_top.specs.Playing.{played_before}
+use Rattle.tbl_top.proofs.PlaysOnLemmas.{HasPlayed}
 use Rattle.tbl_top.proofs.playback.Playback.play_whole.Given as goal
 
 abbrev pub invariant-records : goal.invariant-records
@@ -8,10 +8,7 @@ invariant-records g l = record {
   within : l.at ≤ length l.fn.bytes;
   further : l.fn.at ≤ l.at;
   stream : played_before l.self (drop l.at l.fn.bytes) ≡ played_before l.fn.self (drop l.fn.at l.fn.bytes);
-  continues : Continues g.B.Bank g.C.Validator.verdict l.fn.self l.self;
-  live : l.self.state.ended ≡ false;
-  written : (first : Option (List ℕ)) → IsWritten first l.fn.self.entries (g.K.Sink.taken l.fn.sink) → IsWritten first l.self.entries (g.K.Sink.taken l.sink);
-  still : g.K.Sink.faults l.sink ≡ g.K.Sink.faults l.fn.sink;
+  played : HasPlayed g.B.Bank g.C.Validator.verdict g.K.Sink (l.fn.self, l.fn.sink) (l.self, l.sink);
 }
 
 abbrev pub decreases-records : goal.decreases-records
