@@ -18,18 +18,29 @@ use Rattle.tbl_outside.specs.declared.validator.KitEntry.{KitEntry}
 use Rattle.tbl_outside.specs.declared.validator.Validator.{Ghosts as ValidatorGhosts}
 use Rattle.validation.specs.Kits.{entry_at, owners}
 use Rattle.tbl_fakes.specs.Breaking.{Breaking}
+use Rattle.tbl_fakes.specs.contracts.breaking_bank.BreakingBankBank.TheImpl.{ghosts as bank_ghosts}
 use Rattle.handed_kit.specs.Answering.{Spoken, answer_of}
 use Rattle.handed_kit.specs.Kit.{mute_below}
+use Rattle.handed_kit.specs.contracts.answering.AnsweringValidator.TheImpl.{ghosts as validator_ghosts}
 use Rattle.tbl_core.specs.Asking.{Asks, StandsOn, MeetsLimit, may_ask}
 use Rattle.tbl_core.specs.Engine.{Steps}
 use Rattle.tbl_core.specs.Service.{EngineView, Stands, IsAfter}
 use Rattle.tbl_c.specs.Told.{over_front}
+use Rattle.tbl_c.specs.declared.told.Told.{Told}
 use Rattle.tbl_core.specs.declared.service.StepFault.{StepFault}
 use Rattle.tbl_core.specs.declared.service.StepFault.TheVariants.{BootFault, BootStopped}
 
 -- the engine, over preserved memory whose writes may be to break off
 abbrev pub Serving : Type 0
 Serving = EngineView Breaking Spoken
+
+-- what that memory tells of itself
+abbrev pub memory : Ghosts Breaking
+memory = bank_ghosts
+
+-- and what functions answer for which C hands verdicts in
+abbrev pub functions : ValidatorGhosts Spoken
+functions = validator_ghosts
 
 -- ---- verdicts
 
@@ -51,24 +62,33 @@ WillSay (q ∷ []) (v ∷ vs) kit = ForSome (entry_at kit q.number) (λ e. answe
 WillSay (q ∷ r ∷ []) (v ∷ w ∷ vs) kit = ForSome (entry_at kit q.number) (λ e. answer_of e.check q.image ≡ v) × ForSome (entry_at kit r.number) (λ e. answer_of e.check r.image ≡ second_of q r v w)
 WillSay _ _ _ = ⊥
 
+-- verdicts were handed in for these questions: the functions answer so, and what the service represents is as it was
+pub record HandsIn (questions : List Question) (verdicts : List ℤ) (old new : Serving) : Type 0 where
+  pub on : StandsOn memory old new
+  -- no image was added
+  pub images : new.images ≡ old.images
+  pub will : WillSay questions verdicts new.state.kit
+
 -- ---- a step
 
 -- the entry, as the transcript has it: FFFFFFFF is no entry's place, and after FFFFFFFE comes 0
 abbrev pub told_as : Serving → Entry → List ℕ
 told_as old e = entry_bytes (old.played % 4294967295) e
 
--- what C gets of a call: the status, a length, a number, and bytes over those that were there
+-- what C gets of a call: the status, a length and a number, and bytes over those that were there
 pub record Outcome : Type 0 where
   pub status : ℕ
-  pub told : ℕ
-  pub number : ℕ
+  pub told : Told
   pub out : List ℕ
   pub out_then : List ℕ
 
+abbrev pub got : ℕ → Told → List ℕ → List ℕ → Outcome
+got status told out out_then = record { status = status; told = told; out = out; out_then = out_then }
+
 -- C gets these bytes, over what was there, and how many they are
-pub record IsTold (bytes : List ℕ) (o : Outcome) : Type 0 where
-  pub length_is : o.told ≡ length bytes
-  pub bytes_are : o.out_then ≡ over_front bytes o.out
+pub record IsTold (bytes : List ℕ) (told : Told) (out out_then : List ℕ) : Type 0 where
+  pub length_is : told.length ≡ length bytes
+  pub bytes_are : out_then ≡ over_front bytes out
 
 -- how a step ended that has this status
 abbrev pub end_of : ℕ → Result Unit StepFault
@@ -80,39 +100,39 @@ IsPlayed status = (status ≡ 0) ⊎ (status ≡ 7) ⊎ (status ≡ 8)
 
 -- what C gets of an entry by the status; with 20 memory ran out for its spelling
 abbrev pub TellsEntry : Result Unit StepFault → List ℕ → Outcome → Type 0
-TellsEntry end bytes o = (IsPlayed o.status × (end ≡ end_of o.status) × IsTold bytes o) ⊎ (o.status ≡ 20)
+TellsEntry end bytes o = (IsPlayed o.status × (end ≡ end_of o.status) × IsTold bytes o.told o.out o.out_then) ⊎ (o.status ≡ 20)
 
 -- a request was played, and C gets this of its entry
-pub record Played (g : Ghosts Breaking) (v : ValidatorGhosts Spoken) (old new : Serving) (asked : Actor × Request) (o : Outcome) : Type 0 where
+pub record Played (old new : Serving) (asked : Actor × Request) (o : Outcome) : Type 0 where
   pub entry : Entry
   pub end : Result Unit StepFault
-  pub steps : Steps g v old new asked entry end
+  pub steps : Steps memory functions old new asked entry end
   pub tells : TellsEntry end (told_as old entry) o
 
 -- The questions of the request were answered with the verdicts that were handed in, and it was played. Before that only the kit was
 -- changed: its functions answer so.
-pub record Plays (g : Ghosts Breaking) (v : ValidatorGhosts Spoken) (old new : Serving) (pair : Pair) (verdicts : List ℤ) (o : Outcome) : Type 0 where
+pub record Plays (old new : Serving) (pair : Pair) (verdicts : List ℤ) (o : Outcome) : Type 0 where
   pub questions : List Question
-  pub asks : Asks g old pair.actor pair.request questions
+  pub asks : Asks memory old pair.actor pair.request questions
   pub enough : length questions ≤ length verdicts
   pub handed : Serving
-  pub on : StandsOn g old handed
-  pub played : Played g v handed new (pair.actor, pair.request) o
-  pub said : may_ask pair.request ≡ true → g.tells → (opening : State) (past : List Entry) → Stands g opening past old → Said questions verdicts played.entry.given.verdicts
+  pub on : StandsOn memory old handed
+  pub played : Played handed new (pair.actor, pair.request) o
+  pub said : may_ask pair.request ≡ true → memory.tells → (opening : State) (past : List Entry) → Stands memory opening past old → Said questions verdicts played.entry.given.verdicts
 
 -- a verdict is missing for this question of the request, and C gets the question
-pub record Lacks (g : Ghosts Breaking) (old new : Serving) (pair : Pair) (verdicts : List ℤ) (o : Outcome) : Type 0 where
+pub record Lacks (old new : Serving) (pair : Pair) (verdicts : List ℤ) (o : Outcome) : Type 0 where
   pub questions : List Question
-  pub asks : Asks g old pair.actor pair.request questions
+  pub asks : Asks memory old pair.actor pair.request questions
   pub question : Question
   pub which : slice_get questions (length verdicts) ≡ Some question
-  pub number_is : o.number ≡ question.number
-  pub tells : IsTold question.image o
-  pub on : StandsOn g old new
+  pub number_is : o.told.number ≡ question.number
+  pub tells : IsTold question.image o.told o.out o.out_then
+  pub on : StandsOn memory old new
 
 -- nothing was played and C gets nothing, and the service represents what it represented before
-pub record IsUnchanged (g : Ghosts Breaking) (old new : Serving) (o : Outcome) : Type 0 where
-  pub on : StandsOn g old new
+pub record IsUnchanged (old new : Serving) (o : Outcome) : Type 0 where
+  pub on : StandsOn memory old new
   pub untold : o.out_then ≡ o.out
 
 -- why a request isn't played: out of memory, or the engine has met a limit
@@ -120,11 +140,11 @@ abbrev pub IsRefused : Serving → ℕ → Type 0
 IsRefused new status = (status ≡ 1) ⊎ ((status ≡ 13) × MeetsLimit new)
 
 -- a request was played, a verdict was missing, or it was refused
-abbrev pub Answered : Ghosts Breaking → ValidatorGhosts Spoken → Serving → Serving → Pair → List ℤ → Outcome → Type 0
-Answered g v old new pair verdicts o =
-    Plays g v old new pair verdicts o
-    ⊎ ((o.status ≡ 16) × Lacks g old new pair verdicts o)
-    ⊎ (IsRefused new o.status × IsUnchanged g old new o)
+abbrev pub Answered : Serving → Serving → Pair → List ℤ → Outcome → Type 0
+Answered old new pair verdicts o =
+    Plays old new pair verdicts o
+    ⊎ ((o.status ≡ 16) × Lacks old new pair verdicts o)
+    ⊎ (IsRefused new o.status × IsUnchanged old new o)
 
 -- these bytes are the spelling of this record
 pub record IsWhole (pair : Pair) (input : List ℕ) : Type 0 where
@@ -146,8 +166,8 @@ abbrev pub IsUnread : Serving → List ℕ → ℕ → Type 0
 IsUnread old input status = (status ≡ 1) ⊎ ((status ≡ 5) × IsNotOne input) ⊎ ((status ≡ 19) × (old.state.ended ≢ false))
 
 -- the same by the bytes of the record
-abbrev pub Stepped : Ghosts Breaking → ValidatorGhosts Spoken → Serving → Serving → List ℕ → List ℤ → Outcome → Type 0
-Stepped g v old new input verdicts o = ((pair : Pair) × IsWhole pair input × Answered g v old new pair verdicts o) ⊎ (IsUnread old input o.status × IsUnchanged g old new o)
+abbrev pub Stepped : Serving → Serving → List ℕ → List ℤ → Outcome → Type 0
+Stepped old new input verdicts o = ((pair : Pair) × IsWhole pair input × Answered old new pair verdicts o) ⊎ (IsUnread old input o.status × IsUnchanged old new o)
 
 -- the handle held this, and holds that
 pub record Between (before after : Option Serving) (Is : Serving → Serving → Type 0) : Type 0 where
@@ -167,7 +187,16 @@ OnHeld before after status Is = ((status ≡ 18) × (before ≡ None) × (after 
 abbrev pub IsUnopened : ℕ → Type 0
 IsUnopened status = (status ≡ 1) ⊎ (status ≡ 7) ⊎ (status ≡ 8)
 
--- nothing was played, over the blocks that these bytes show, with 240 functions for which nothing was handed in
-pub record Begins (g : Ghosts Breaking) (bank : List ℕ) (new : Serving) : Type 0 where
-  pub stands : Stands g (first_state (store_of bank) (owners (map (λ (e : KitEntry Spoken). Some e) (mute_below 240))) all_admitted) [] new
+-- 240 functions for which nothing was handed in
+abbrev pub mute_functions : List (Option (KitEntry Spoken))
+mute_functions = map (λ (e : KitEntry Spoken). Some e) (mute_below 240)
+
+-- nothing was played, over the blocks that these bytes show, with these functions
+pub record Begins (bank : List ℕ) (new : Serving) : Type 0 where
+  pub stands : Stands memory (first_state (store_of bank) (owners mute_functions) all_admitted) [] new
   pub after : IsAfter [] new
+
+-- so a service was opened over these bytes, or the status says why not
+abbrev pub Opens : List ℕ → Result Serving ℕ → Type 0
+Opens bank (Ok new) = Begins bank new
+Opens bank (Err status) = IsUnopened status

@@ -4,31 +4,31 @@
 
 mod handle;
 mod loose;
+mod opening;
 mod service;
 mod status;
 mod told;
+mod verdicts;
 
 ghost use Rattle.std.specs.Prelude.{◌≡◌, ◌≢◌, ◌↔◌, ◌⊎◌, None, Some, Option, length, drop};
 ghost use Rattle.tbl_kinds.specs.Places.{bank_size};
 ghost use Rattle.tbl_c.specs.Breaks.{IsToBreak, writes_of};
 ghost use Rattle.tbl_c.specs.Copies.{IsCopied};
-ghost use Rattle.tbl_c.specs.Serving.{Begins, Between, OnHeld, Serving, Stepped};
+ghost use Rattle.tbl_c.specs.Serving.{Begins, Between, OnHeld, Serving, Stepped, got};
 ghost use Rattle.tbl_c.specs.Told.{over_front};
 
 use crate::service::{BANK_SIZE, Service};
 use crate::status::{BAD_BANK, CLOSED, NO_MEMORY, PLAYED};
-use handed_kit::Answering;
 pub use handle::Handle;
 use std::alloc::Global;
-use tbl_fakes::{Break, BreakingBank};
-use tbl_outside::{Bank, Validator};
+use tbl_fakes::Break;
 pub use told::{Told, Writes};
 
 /// Opens a handle over a copy of preserved memory of 262,144 bytes: boots over it, with files of all spacecraft and processors admitted.
 /// One that is open is closed first, and it stays closed if that fails. The status is 0, 1 or 17.
 #[unsafe(no_mangle)]
 pub extern "C" fn tbl_open(alloc: Global, handle: &mut Handle, bank: &[u8]) -> u8
-    ensures ok { result ≡ 0 → (new : Serving) × (handle.new.service ≡ Some new) × Begins ⟦<BreakingBank as Bank>⟧ bank.now new }
+    ensures ok { result ≡ 0 → (new : Serving) × (handle.new.service ≡ Some new) × Begins bank.now new }
     ensures err { result ≢ 0 → handle.new.service ≡ None }
     ensures bad_bank { (result ≡ 17) ↔ (length bank.now ≢ bank_size) }
 {
@@ -62,8 +62,7 @@ pub extern "C" fn tbl_step(
 ) -> u8
     // The service begins where `tbl_open` left it, and each step goes on from where the one before left it. So by `legal` of `Stepped` the
     // entries that C got are one legal history.
-    ensures { OnHeld handle.old.service handle.new.service result (λ old new. Stepped ⟦<BreakingBank as Bank>⟧ ⟦<Answering as Validator>⟧ old new input.now
-        verdicts.now (record { status = result; told = told.new.length; number = told.new.number; out = out.old; out_then = out.new })) }
+    ensures { OnHeld handle.old.service handle.new.service result (λ old new. Stepped old new input.now verdicts.now (got result told.new out.old out.new)) }
 {
     let Some(mut service) = handle.replace(alloc, None) else {
         return CLOSED;
@@ -90,7 +89,7 @@ pub extern "C" fn tbl_bank(alloc: Global, handle: &mut Handle, from: usize, out:
 /// is changed.
 #[unsafe(no_mangle)]
 pub extern "C" fn tbl_break(alloc: Global, handle: &mut Handle, breaks: &[Break]) -> u8
-    ensures { OnHeld handle.old.service handle.new.service result (λ old new. IsToBreak ⟦<BreakingBank as Bank>⟧ breaks.now old new result) }
+    ensures { OnHeld handle.old.service handle.new.service result (λ old new. IsToBreak breaks.now old new result) }
 {
     let Some(mut service) = handle.replace(alloc, None) else {
         return CLOSED;
@@ -121,7 +120,7 @@ pub extern "C" fn tbl_writes(alloc: Global, handle: &mut Handle, writes: &mut Wr
 #[unsafe(no_mangle)]
 pub extern "C" fn tbl_copy(alloc: Global, from: &mut Handle, to: &mut Handle) -> u8
     ensures from { from.new.service ≡ from.old.service }
-    ensures copied { result ≡ 0 → Between from.old.service to.new.service (IsCopied ⟦<BreakingBank as Bank>⟧) }
+    ensures copied { result ≡ 0 → Between from.old.service to.new.service IsCopied }
     ensures err { result ≢ 0 → to.new.service ≡ to.old.service }
     ensures why { (result ≡ 0) ⊎ (result ≡ 1) ⊎ ((result ≡ 18) × (from.old.service ≡ None)) }
 {
