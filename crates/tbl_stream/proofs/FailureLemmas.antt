@@ -5,10 +5,11 @@ use Rattle.tbl_core.specs.declared.service.StartFault.TheVariants.{Memory as NoM
 use Rattle.tbl_kinds.specs.Transcript.{end_bytes}
 use Rattle.tbl_outside.specs.Counts.{Rose}
 use Rattle.tbl_session.specs.Session.{Ran}
-use Rattle.tbl_stream.specs.Finishing.{status_of, Taken, WritesEnd, Finishes, FinishesUnbegun}
+use Rattle.tbl_stream.specs.Finishing.{status_of, WritesEnd, Finishes, FinishesUnbegun}
 use Rattle.tbl_stream.specs.Reading.{HasFailed}
 use Rattle.tbl_stream.specs.Serving.{IsEnded, TellsFailures}
 use Rattle.tbl_stream.specs.Standing.{TellsCause}
+use Rattle.tbl_stream.specs.Writing.{Taken}
 use Rattle.tbl_stream.specs.declared.standing.Standing.{Standing}
 use Rattle.tbl_stream.specs.declared.standing.Standing.TheVariants.{Open, Bad, Full, BootFault, BootStopped, SinkFailed, Memory, Unwritten}
 use Rattle.tbl_stream.proofs.StatusLemmas.{not_ended}

@@ -13,8 +13,7 @@ use Rattle.tbl_stream.specs.Feeding.{answer_of, Feeds, IsKept}
 use Rattle.tbl_stream.specs.declared.standing.Standing.{Standing}
 use Rattle.tbl_stream.specs.declared.standing.Standing.TheVariants.{Open, Bad, Full, BootFault, BootStopped, SinkFailed, Memory, Unwritten}
 use Rattle.tbl_stream.specs.declared.stream.Fed.TheVariants as fed
-use Rattle.tbl_stream.proofs.PlayingLemmas.{plays_on}
-use Rattle.tbl_stream.proofs.Rounds.{stream_on}
+use Rattle.tbl_stream.proofs.PlayingLemmas.{plays_of_on}
 
 pub front_length : (rest : List ℕ) → IsFront rest → length rest < 32836
 front_length rest (inl none) = rw none (omega arith)
@@ -41,6 +40,17 @@ keeps_nothing SinkFailed behind kept is = tt
 keeps_nothing Memory behind kept is = tt
 keeps_nothing Unwritten behind kept is = tt
 
+-- an open stream keeps all that wasn't played
+pub open_keeps : (standing : Standing) (behind kept : List ℕ) → standing ≡ Open → Leaves standing behind → IsKept standing behind kept → (kept ≡ behind) × IsFront kept
+open_keeps Open behind kept is leaves keeps = (keeps, subst IsFront (sym keeps) leaves)
+open_keeps Bad behind kept is leaves keeps = absurd cc
+open_keeps Full behind kept is leaves keeps = absurd cc
+open_keeps BootFault behind kept is leaves keeps = absurd cc
+open_keeps BootStopped behind kept is leaves keeps = absurd cc
+open_keeps SinkFailed behind kept is leaves keeps = absurd cc
+open_keeps Memory behind kept is leaves keeps = absurd cc
+open_keeps Unwritten behind kept is leaves keeps = absurd cc
+
 -- what an answer says
 pub open_answer : (standing : Standing) → fed.More ≡ answer_of standing → standing ≡ Open
 open_answer Open e = refl
@@ -62,9 +72,9 @@ module _ {B C : Type 0} (g : Ghosts B) (verdict : C → List ℕ → ℤ) where
   -- a stream that was open ends for the room or for memory
   pub plays_quiet : (standing : Standing) (a b : Moment B C) (es : List Entry) → IsQuiet standing → Plays g verdict Open a b es → Plays g verdict standing a b es
   plays_quiet Open a b es quiet p = p
-  plays_quiet Bad a b es quiet p = record { goes = p.goes; each = p.each; place = p.place; offset = p.offset; written = p.written; cause = p.cause; boot = p.boot }
-  plays_quiet Full a b es quiet p = record { goes = p.goes; each = p.each; place = p.place; offset = p.offset; written = p.written; cause = p.cause; boot = p.boot }
-  plays_quiet Memory a b es quiet p = record { goes = p.goes; each = p.each; place = p.place; offset = p.offset; written = p.written; cause = p.cause; boot = p.boot }
+  plays_quiet Bad a b es quiet p = record { goes = p.goes; each = p.each; place = p.place; offset = p.offset; written = p.written; cause = p.cause; boot = p.boot; count = p.count }
+  plays_quiet Full a b es quiet p = record { goes = p.goes; each = p.each; place = p.place; offset = p.offset; written = p.written; cause = p.cause; boot = p.boot; count = p.count }
+  plays_quiet Memory a b es quiet p = record { goes = p.goes; each = p.each; place = p.place; offset = p.offset; written = p.written; cause = p.cause; boot = p.boot; count = p.count }
   plays_quiet BootFault a b es quiet p = absurd quiet
   plays_quiet BootStopped a b es quiet p = absurd quiet
   plays_quiet SinkFailed a b es quiet p = absurd quiet
@@ -76,21 +86,26 @@ module _ {B C : Type 0} (g : Ghosts B) (verdict : C → List ℕ → ℤ) where
   completed standing a b kept left piece at count p =
       let front = take count (drop at piece) in
       let behind = drop (at + count) piece in
-      let whole : front ++ behind ≡ drop at piece = ap (λ (xs : List ℕ). front ++ xs) (sym (drop-drop count at piece)) ∙ take-append-drop count (drop at piece) in (
-        p.0,
-        p.1,
-        ap (λ (xs : List ℕ). kept ++ xs) (sym whole) ∙ sym (append_assoc kept front behind) ∙ ap (λ (xs : List ℕ). xs ++ behind) p.2 ∙ append_assoc (joined (pairs_of p.0)) left behind,
-      )
+      let whole : front ++ behind ≡ drop at piece = ap (λ (xs : List ℕ). front ++ xs) (sym (drop-drop count at piece)) ∙ take-append-drop count (drop at piece) in
+      record {
+        entries = p.entries;
+        plays = p.plays;
+        parts = ap (λ (xs : List ℕ). kept ++ xs) (sym whole) ∙ sym (append_assoc kept front behind) ∙ ap (λ (xs : List ℕ). xs ++ behind) p.parts ∙ append_assoc (joined (pairs_of p.entries)) left behind;
+        full = p.full;
+      }
 
   -- the piece is used up, and a beginning is kept
   pub feeds_kept : (a b : Moment B C) (fed kept piece : List ℕ) (at : ℕ) → at ≡ length piece → PlaysOf g verdict Open a b fed (kept ++ drop at piece) → IsFront kept → Feeds g verdict Open a b fed kept
   feeds_kept a b fed kept piece at all p begun =
       let none : drop at piece ≡ [] = nil_from_length (drop at piece) (omega (arith, length-drop at piece)) in
       record {
-        entries = p.0;
-        plays = p.1;
         behind = kept;
-        parts = p.2 ∙ ap (λ (xs : List ℕ). joined (pairs_of p.0) ++ (kept ++ xs)) none ∙ ap (λ (xs : List ℕ). joined (pairs_of p.0) ++ xs) (append-nil kept);
+        played = record {
+          entries = p.entries;
+          plays = p.plays;
+          parts = p.parts ∙ ap (λ (xs : List ℕ). joined (pairs_of p.entries) ++ (kept ++ xs)) none ∙ ap (λ (xs : List ℕ). joined (pairs_of p.entries) ++ xs) (append-nil kept);
+          full = p.full;
+        };
         leaves = begun;
         keeps = refl;
       }
@@ -98,10 +113,8 @@ module _ {B C : Type 0} (g : Ghosts B) (verdict : C → List ℕ → ℤ) where
   -- the stream is over
   pub feeds_over : (standing : Standing) (a b : Moment B C) (fed left kept more : List ℕ) → standing ≢ Open → PlaysOf g verdict standing a b fed (left ++ more) → Leaves standing left → Feeds g verdict standing a b fed kept
   feeds_over standing a b fed left kept more is p leaves = record {
-    entries = p.0;
-    plays = p.1;
     behind = left ++ more;
-    parts = p.2;
+    played = p;
     leaves = leaves_more standing left more is leaves;
     keeps = keeps_nothing standing (left ++ more) kept is;
   }
@@ -109,10 +122,8 @@ module _ {B C : Type 0} (g : Ghosts B) (verdict : C → List ℕ → ℤ) where
   -- or what is left was played up to what is there
   pub feeds_left : (standing : Standing) (a b : Moment B C) (fed left kept : List ℕ) → PlaysOf g verdict standing a b fed left → Leaves standing left → IsKept standing left kept → Feeds g verdict standing a b fed kept
   feeds_left standing a b fed left kept p leaves keeps = record {
-    entries = p.0;
-    plays = p.1;
     behind = left;
-    parts = p.2;
+    played = p;
     leaves = leaves;
     keeps = keeps;
   }
@@ -120,10 +131,8 @@ module _ {B C : Type 0} (g : Ghosts B) (verdict : C → List ℕ → ℤ) where
   -- memory ran out to keep it
   pub feeds_starved : (a b : Moment B C) (fed left kept : List ℕ) → PlaysOf g verdict Open a b fed left → Feeds g verdict Memory a b fed kept
   feeds_starved a b fed left kept p = record {
-    entries = p.0;
-    plays = plays_quiet Memory a b p.0 tt p.1;
     behind = left;
-    parts = p.2;
+    played = record { entries = p.entries; plays = plays_quiet Memory a b p.entries tt p.plays; parts = p.parts; full = tt };
     leaves = tt;
     keeps = tt;
   }
@@ -131,21 +140,8 @@ module _ {B C : Type 0} (g : Ghosts B) (verdict : C → List ℕ → ℤ) where
   -- after a stretch that was played before
   pub feeds_on : (standing : Standing) (a b c : Moment B C) (fed mid kept : List ℕ) → PlaysOf g verdict Open a b fed mid → Feeds g verdict standing b c mid kept → Feeds g verdict standing a c fed kept
   feeds_on standing a b c fed mid kept p f = record {
-    entries = p.0 ++ f.entries;
-    plays = plays_on g verdict standing a b c p.0 f.entries p.1 f.plays;
     behind = f.behind;
-    parts = stream_on fed mid f.behind p.0 f.entries p.2 f.parts;
+    played = plays_of_on g verdict standing a b c fed mid f.behind p f.played;
     leaves = f.leaves;
     keeps = f.keeps;
   }
-
-  -- an open stream keeps all that wasn't played
-  pub feeds_open : (standing : Standing) (a b : Moment B C) (fed kept : List ℕ) → standing ≡ Open → Feeds g verdict standing a b fed kept → PlaysOf g verdict Open a b fed kept × IsFront kept
-  feeds_open Open a b fed kept is f = ((f.entries, f.plays, f.parts ∙ ap (λ (xs : List ℕ). joined (pairs_of f.entries) ++ xs) (sym f.keeps)), subst IsFront (sym f.keeps) f.leaves)
-  feeds_open Bad a b fed kept is f = absurd cc
-  feeds_open Full a b fed kept is f = absurd cc
-  feeds_open BootFault a b fed kept is f = absurd cc
-  feeds_open BootStopped a b fed kept is f = absurd cc
-  feeds_open SinkFailed a b fed kept is f = absurd cc
-  feeds_open Memory a b fed kept is f = absurd cc
-  feeds_open Unwritten a b fed kept is f = absurd cc

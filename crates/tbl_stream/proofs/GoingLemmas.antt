@@ -1,12 +1,12 @@
 -- An engine that goes on, over whatever it has played.
-use Rattle.std.proofs.Common.{◌≡◌, ◌≤◌, ℕ, List, [], ◌∷◌, ◌++◌, false, Option, Some, None, is_some, true, Result, ℤ, refl, sym, subst, append_assoc, arith, inl, inr}
+use Rattle.std.proofs.Common.{◌≡◌, ◌≤◌, ℕ, List, [], ◌∷◌, ◌++◌, false, Option, Some, None, is_some, true, Result, ℤ, sym, subst, append_assoc, arith, inl, inr}
 use Rattle.std.specs.Prelude.{MatchOption}
 use Rattle.std.proofs.lemmas.List.{append-nil}
 use Rattle.tbl_kinds.specs.declared.entry.Entry.{Entry}
 use Rattle.tbl_kinds.specs.declared.request.Actor.{Actor}
 use Rattle.tbl_kinds.specs.declared.request.Request.{Request}
 use Rattle.tbl_core.specs.Engine.{Steps}
-use Rattle.tbl_core.specs.Service.{EngineView, IsAfter, AddsOne, HasRoom, IsLimit, image_limit, core_of, recounted}
+use Rattle.tbl_core.specs.Service.{EngineView, IsAfter, HasRoom, IsLimit, image_limit, core_of, recounted}
 use Rattle.tbl_core.specs.declared.service.StepFault.{StepFault}
 use Rattle.tbl_history.specs.Serving.{Continues}
 use Rattle.tbl_history.proofs.Laws.{Laws}

@@ -2,6 +2,7 @@ pub mod Rounds
 pub mod GoingLemmas
 pub mod StepLemmas
 pub mod PlayingLemmas
+pub mod RecordLemmas
 pub mod FeedingLemmas
 pub mod ReadingLemmas
 pub mod StatusLemmas

@@ -1,26 +1,21 @@
 -- Stretches of a stream, one after the other.
-use Rattle.std.proofs.Common.{◌≡◌, ◌≢◌, ℕ, ◌+◌, List, [], ◌∷◌, ◌++◌, length, take, drop, Option, Some, None, Bool, true, false, ℤ, refl, sym, ap, subst, ◌∙◌, append_assoc, arith}
-use Rattle.std.specs.Prelude.{◌%◌, ◌^◌, ◌<◌, ◌≤◌, ◌-◌, MatchOption, ⊤}
+use Rattle.std.proofs.Common.{◌≡◌, ℕ, ◌+◌, List, [], ◌∷◌, ◌++◌, length, take, Option, Bool, true, false, ℤ, refl, sym, ap, subst, ◌∙◌, append_assoc, arith}
+use Rattle.std.specs.Prelude.{◌%◌, ◌^◌}
 use Rattle.std.specs.Io.KnownBytes.{append_known}
-use Rattle.std.proofs.Math.Nat.{mod-mod}
-use Rattle.std.proofs.Math.Seq.{take-length}
-use Rattle.std.proofs.lemmas.List.{append-nil, length-append, length-drop, length-take, drop-drop, take-append-drop}
-use Rattle.tbl_kinds.specs.Records.{Pair, IsRecord, spelling, joined}
-use Rattle.tbl_kinds.specs.Transcript.{pair_of, pairs_of, entry_bytes}
-use Rattle.tbl_kinds.proofs.RecordLaws.{length-spelling}
+use Rattle.std.proofs.lemmas.List.{length-append}
+use Rattle.tbl_kinds.specs.Records.{joined}
+use Rattle.tbl_kinds.specs.Transcript.{pairs_of, entry_bytes}
 use Rattle.tbl_kinds.specs.declared.entry.Entry.{Entry}
-use Rattle.tbl_kinds.specs.declared.request.Actor.{Actor}
-use Rattle.tbl_kinds.specs.declared.request.Request.{Request}
 use Rattle.tbl_outside.proofs.Streams.{append_known-nil, written_more}
 use Rattle.tbl_outside.specs.declared.bank.Bank.{Ghosts}
 use Rattle.tbl_session.specs.Trouble.{EndsInBoot}
-use Rattle.tbl_stream.specs.Places.{place_of, place_count, told_from}
-use Rattle.tbl_stream.specs.Playing.{Moment, Goes, Plays, PlaysOf, IsEntryOf}
-use Rattle.tbl_stream.specs.Standing.{TellsFull, IsWritten, IsCutShort, TellsWritten, TellsCause, TellsBoot, TellsStop, TellsWhy, Leaves, IsEnding, IsStop, IsItem, IsQuiet, IsRefusal, standing_after, first_of}
+use Rattle.tbl_stream.specs.Places.{place_of, told_from}
+use Rattle.tbl_stream.specs.Playing.{Moment, Goes, Plays, PlaysOf}
+use Rattle.tbl_stream.specs.Standing.{TellsFull, IsWritten, IsCutShort, TellsWritten, TellsCause, TellsBoot, IsQuiet}
 use Rattle.tbl_stream.specs.declared.standing.Standing.{Standing}
 use Rattle.tbl_stream.specs.declared.standing.Standing.TheVariants.{Open, Bad, Full, BootFault, BootStopped, SinkFailed, Memory, Unwritten}
 use Rattle.tbl_stream.proofs.GoingLemmas.{goes_none, goes_on}
-use Rattle.tbl_stream.proofs.Rounds.{same_on, place_on, told_same, told_append, each_append, joined_append, joined_one, stream_on}
+use Rattle.tbl_stream.proofs.Rounds.{same_on, place_on, told_same, told_append, each_append, joined_append, stream_on}
 
 -- ---- what the sink took
 
@@ -117,6 +112,7 @@ module _ {B C : Type 0} (g : Ghosts B) (verdict : C → List ℕ → ℤ) where
     written = subst (λ (t : Option (List ℕ)). TellsWritten standing old.played.place [] old.taken t) (sym taken) (nothing_told standing old.played.place old.taken quiet);
     cause = subst (λ n. TellsCause standing old.unwritten n) (sym unwritten) (nothing_failed standing old.unwritten quiet);
     boot = no_boot standing new.played.engine.state.ended quiet live;
+    count = omega (arith, unwritten);
   }
 
   pub plays_none : (standing : Standing) (m : Moment B C) → IsQuiet standing → m.played.engine.state.ended ≡ false → Plays g verdict standing m m []
@@ -133,185 +129,21 @@ module _ {B C : Type 0} (g : Ghosts B) (verdict : C → List ℕ → ℤ) where
     written = tells_on standing a.played.place b.played.place xs ys a.taken b.taken c.taken p.place p.written q.written;
     cause = subst (λ n. TellsCause standing n c.unwritten) p.cause q.cause;
     boot = boot_on standing c.played.engine.state.ended xs ys q.boot;
+    count = omega (arith, p.count, q.count);
   }
 
-  pub plays_of_nothing : (standing : Standing) (m : Moment B C) (bytes : List ℕ) → IsQuiet standing → m.played.engine.state.ended ≡ false → PlaysOf g verdict standing m m bytes bytes
-  plays_of_nothing standing m bytes quiet live = ([], plays_none standing m quiet live, refl)
+  pub plays_of_nothing : (standing : Standing) (m : Moment B C) (bytes : List ℕ) → IsQuiet standing → TellsFull standing m.played.engine.played → m.played.engine.state.ended ≡ false → PlaysOf g verdict standing m m bytes bytes
+  plays_of_nothing standing m bytes quiet full live = record {
+    entries = [];
+    plays = plays_none standing m quiet live;
+    parts = refl;
+    full = full;
+  }
 
   pub plays_of_on : (standing : Standing) (a b c : Moment B C) (bytes mid left : List ℕ) → PlaysOf g verdict Open a b bytes mid → PlaysOf g verdict standing b c mid left → PlaysOf g verdict standing a c bytes left
-  plays_of_on standing a b c bytes mid left p q = (p.0 ++ q.0, plays_on standing a b c p.0 q.0 p.1 q.1, stream_on bytes mid left p.0 q.0 p.2 q.2)
-
-  -- the service goes on, as long as the stream is open
-  pub lives_on : (a b : Moment B C) (bytes left : List ℕ) → PlaysOf g verdict Open a b bytes left → b.played.engine.state.ended ≡ false
-  lives_on a b bytes left p = p.1.boot
-
--- ---- one record
-
--- what a write of an entry left, after its step
-told_stop : (stop ending : Option Standing) (place : ℕ) (e : Entry) (before after : Option (List ℕ)) → IsEnding ending
-    → MatchOption stop (after ≡ append_known before (entry_bytes place e)) (λ standing. TellsStop standing before after (entry_bytes place e)) → place ≡ place_of place
-    → TellsWritten (standing_after (first_of stop ending)) place (e ∷ []) before after
-told_stop None None place e before after is w round = w ∙ ap (append_known before) (sym (append-nil (entry_bytes place e)) ∙ ap (λ n. entry_bytes n e ++ []) round)
-told_stop None (Some BootFault) place e before after is w round = w ∙ ap (append_known before) (sym (append-nil (entry_bytes place e)) ∙ ap (λ n. entry_bytes n e ++ []) round)
-told_stop None (Some BootStopped) place e before after is w round = w ∙ ap (append_known before) (sym (append-nil (entry_bytes place e)) ∙ ap (λ n. entry_bytes n e ++ []) round)
-told_stop None (Some Open) place e before after is w round = absurd is
-told_stop None (Some Bad) place e before after is w round = absurd is
-told_stop None (Some Full) place e before after is w round = absurd is
-told_stop None (Some SinkFailed) place e before after is w round = absurd is
-told_stop None (Some Memory) place e before after is w round = absurd is
-told_stop None (Some Unwritten) place e before after is w round = absurd is
-told_stop (Some SinkFailed) ending place e before after is w round = record {
-  front = [];
-  last = e;
-  parts = refl;
-  count = w.count;
-  grown = w.grown ∙ ap (λ n. append_known before (take w.count (entry_bytes n e))) (round ∙ ap place_of (omega arith));
-}
-told_stop (Some Unwritten) ending place e before after is w round = record {
-  front = [];
-  last = e;
-  parts = refl;
-  count = 0;
-  grown = w ∙ sym (append_known-nil before);
-}
-told_stop (Some Open) ending place e before after is w round = absurd w
-told_stop (Some Bad) ending place e before after is w round = absurd w
-told_stop (Some Full) ending place e before after is w round = absurd w
-told_stop (Some BootFault) ending place e before after is w round = absurd w
-told_stop (Some BootStopped) ending place e before after is w round = absurd w
-told_stop (Some Memory) ending place e before after is w round = absurd w
-
-failed_stop : (stop ending : Option Standing) (before after : ℕ) → IsEnding ending → TellsWhy stop before after → TellsCause (standing_after (first_of stop ending)) before after
-failed_stop None None before after is why = why
-failed_stop None (Some BootFault) before after is why = why
-failed_stop None (Some BootStopped) before after is why = why
-failed_stop None (Some Open) before after is why = absurd is
-failed_stop None (Some Bad) before after is why = absurd is
-failed_stop None (Some Full) before after is why = absurd is
-failed_stop None (Some SinkFailed) before after is why = absurd is
-failed_stop None (Some Memory) before after is why = absurd is
-failed_stop None (Some Unwritten) before after is why = absurd is
-failed_stop (Some SinkFailed) ending before after is why = why
-failed_stop (Some Unwritten) ending before after is why = why
-failed_stop (Some Open) ending before after is why = absurd why
-failed_stop (Some Bad) ending before after is why = absurd why
-failed_stop (Some Full) ending before after is why = absurd why
-failed_stop (Some BootFault) ending before after is why = absurd why
-failed_stop (Some BootStopped) ending before after is why = absurd why
-failed_stop (Some Memory) ending before after is why = absurd why
-
-boot_stop : (stop ending : Option Standing) (before after : ℕ) (ended : Bool) (es : List Entry) → TellsWhy stop before after → TellsBoot (standing_after ending) ended es → TellsBoot (standing_after (first_of stop ending)) ended es
-boot_stop None ending before after ended es why boot = boot
-boot_stop (Some SinkFailed) ending before after ended es why boot = tt
-boot_stop (Some Unwritten) ending before after ended es why boot = tt
-boot_stop (Some Open) ending before after ended es why boot = absurd why
-boot_stop (Some Bad) ending before after ended es why boot = absurd why
-boot_stop (Some Full) ending before after ended es why boot = absurd why
-boot_stop (Some BootFault) ending before after ended es why boot = absurd why
-boot_stop (Some BootStopped) ending before after ended es why boot = absurd why
-boot_stop (Some Memory) ending before after ended es why boot = absurd why
-
-pub is_stop : (stop ending : Option Standing) (before after : ℕ) → TellsWhy stop before after → IsEnding ending → IsStop (first_of stop ending)
-is_stop None None before after why is = tt
-is_stop None (Some BootFault) before after why is = tt
-is_stop None (Some BootStopped) before after why is = tt
-is_stop None (Some Open) before after why is = absurd is
-is_stop None (Some Bad) before after why is = absurd is
-is_stop None (Some Full) before after why is = absurd is
-is_stop None (Some SinkFailed) before after why is = absurd is
-is_stop None (Some Memory) before after why is = absurd is
-is_stop None (Some Unwritten) before after why is = absurd is
-is_stop (Some SinkFailed) ending before after why is = tt
-is_stop (Some Unwritten) ending before after why is = tt
-is_stop (Some Open) ending before after why is = absurd why
-is_stop (Some Bad) ending before after why is = absurd why
-is_stop (Some Full) ending before after why is = absurd why
-is_stop (Some BootFault) ending before after why is = absurd why
-is_stop (Some BootStopped) ending before after why is = absurd why
-is_stop (Some Memory) ending before after why is = absurd why
-
-module _ {B C : Type 0} (g : Ghosts B) (verdict : C → List ℕ → ℤ) where
-  pub plays_one : (stop ending : Option Standing) (old new : Moment B C) (e : Entry) (p : Pair) → pair_of e ≡ p → IsRecord p → Goes g verdict old.played.engine new.played.engine (e ∷ [])
-      → old.played.place ≡ place_of old.played.place → new.played.place ≡ place_of (old.played.place + 1) → new.played.offset ≡ (old.played.offset + length (spelling p)) % 2 ^ 32
-      → MatchOption stop (new.taken ≡ append_known old.taken (entry_bytes old.played.place e)) (λ standing. TellsStop standing old.taken new.taken (entry_bytes old.played.place e))
-      → TellsWhy stop old.unwritten new.unwritten → IsEnding ending → TellsBoot (standing_after ending) new.played.engine.state.ended (e ∷ [])
-      → Plays g verdict (standing_after (first_of stop ending)) old new (e ∷ [])
-  plays_one stop ending old new e p pair is_record goes round place offset wrote why is boot = record {
-    goes = goes;
-    each = (subst IsRecord (sym pair) is_record, tt);
-    place = ap place_of place ∙ mod-mod (old.played.place + 1) place_count;
-    offset = ap (λ n. n % 2 ^ 32) offset ∙ mod-mod (old.played.offset + length (spelling p)) (2 ^ 32) ∙ ap (λ (s : List ℕ). (old.played.offset + length s) % 2 ^ 32) (sym (joined_one e p pair));
-    written = told_stop stop ending old.played.place e old.taken new.taken is wrote round;
-    cause = failed_stop stop ending old.unwritten new.unwritten is why;
-    boot = boot_stop stop ending old.unwritten new.unwritten new.played.engine.state.ended (e ∷ []) why boot;
+  plays_of_on standing a b c bytes mid left p q = record {
+    entries = p.entries ++ q.entries;
+    plays = plays_on standing a b c p.entries q.entries p.plays q.plays;
+    parts = stream_on bytes mid left p.entries q.entries p.parts q.parts;
+    full = q.full;
   }
-
--- ---- what ends a stream with a record says nothing of what comes after it
-
-pub stop_leaves : (stop : Option Standing) (behind : List ℕ) → IsStop stop → MatchOption stop ⊤ (λ standing. Leaves standing behind)
-stop_leaves None behind is = tt
-stop_leaves (Some BootFault) behind is = tt
-stop_leaves (Some BootStopped) behind is = tt
-stop_leaves (Some SinkFailed) behind is = tt
-stop_leaves (Some Unwritten) behind is = tt
-stop_leaves (Some Open) behind is = absurd is
-stop_leaves (Some Bad) behind is = absurd is
-stop_leaves (Some Full) behind is = absurd is
-stop_leaves (Some Memory) behind is = absurd is
-
-pub refusal_leaves : (standing : Standing) (behind : List ℕ) → IsRefusal standing → Leaves standing behind
-refusal_leaves Full behind is = tt
-refusal_leaves Memory behind is = tt
-refusal_leaves Open behind is = absurd is
-refusal_leaves Bad behind is = absurd is
-refusal_leaves BootFault behind is = absurd is
-refusal_leaves BootStopped behind is = absurd is
-refusal_leaves SinkFailed behind is = absurd is
-refusal_leaves Unwritten behind is = absurd is
-
-pub never_full : (standing : Standing) (played : ℕ) → standing ≢ Full → TellsFull standing played
-never_full Open played is = tt
-never_full Bad played is = tt
-never_full Full played is = absurd (is refl)
-never_full BootFault played is = tt
-never_full BootStopped played is = tt
-never_full SinkFailed played is = tt
-never_full Memory played is = tt
-never_full Unwritten played is = tt
-
-pub refusal_quiet : (standing : Standing) → IsRefusal standing → IsQuiet standing
-refusal_quiet Full is = tt
-refusal_quiet Memory is = tt
-refusal_quiet Open is = absurd is
-refusal_quiet Bad is = absurd is
-refusal_quiet BootFault is = absurd is
-refusal_quiet BootStopped is = absurd is
-refusal_quiet SinkFailed is = absurd is
-refusal_quiet Unwritten is = absurd is
-
--- ---- a record in front of the bytes from a place on
-
--- the slice from a place on
-slice_is : (bytes : List ℕ) (at : ℕ) → take (length bytes - at) (drop at bytes) ≡ drop at bytes
-slice_is bytes at = ap (λ n. take n (drop at bytes)) (sym (length-drop at bytes)) ∙ take-length (drop at bytes)
-
--- it was played, and what comes after it is left
-pub item_left : (e : Entry) (p : Pair) (bytes : List ℕ) (at used : ℕ) → pair_of e ≡ p → IsItem p used (take (length bytes - at) (drop at bytes)) → drop at bytes ≡ joined (pairs_of (e ∷ [])) ++ drop (at + used) bytes
-item_left e p bytes at used pair item =
-    let front : take used (drop at bytes) ≡ joined (pairs_of (e ∷ [])) = ap (take used) (sym (slice_is bytes at)) ∙ item.spelled ∙ sym (joined_one e p pair) in
-    sym (take-append-drop used (drop at bytes)) ∙ ap (λ (xs : List ℕ). xs ++ drop used (drop at bytes)) front ∙ ap (λ (xs : List ℕ). joined (pairs_of (e ∷ [])) ++ xs) (drop-drop used at bytes)
-
--- it lies within them
-pub item_within : (p : Pair) (bytes : List ℕ) (at used : ℕ) → at ≤ length bytes → IsItem p used (take (length bytes - at) (drop at bytes)) → at + used ≤ length bytes
-item_within p bytes at used within item =
-    omega (arith, length-drop at bytes, length-take used (take (length bytes - at) (drop at bytes)), length-take (length bytes - at) (drop at bytes), ap (λ (xs : List ℕ). length xs) item.spelled, item.len)
-
-pub item_some : {T : Type 0} (o : Option T) (p : Pair) (bytes : List ℕ) (at used : ℕ) → IsItem p used bytes → MatchOption o (at < at + used) (λ _. at ≤ at + used)
-item_some None p bytes at used item = omega (arith, item.len, length-spelling p)
-item_some (Some x) p bytes at used item = omega arith
-
-pub used_bound : (p : Pair) (used : ℕ) → IsRecord p → used ≡ length (spelling p) → used ≤ 32836
-used_bound p used is e = omega (arith, length-spelling p, is.within)
-
-pub as_pair : (e : Entry) (actor : Actor) (request : Request) → IsEntryOf actor request e → pair_of e ≡ record { actor = actor; request = request }
-as_pair e actor request is = let a = is.actor_is in let r = is.request_is in cc

@@ -6,13 +6,13 @@ use Rattle.std.specs.Io.KnownBytes.{prepend_known}
 use Rattle.tbl_kinds.specs.Records.{joined}
 use Rattle.tbl_kinds.specs.Transcript.{pairs_of}
 use Rattle.tbl_outside.specs.declared.bank.Bank.{Ghosts}
-use Rattle.tbl_stream.specs.Playing.{Moment, PlaysOf}
+use Rattle.tbl_stream.specs.Playing.{Moment, Plays, PlaysOf}
 use Rattle.tbl_stream.specs.Standing.{IsFront}
 use Rattle.tbl_stream.specs.Feeding.{Feeds}
-use Rattle.tbl_stream.specs.Reading.{Reads}
+use Rattle.tbl_stream.specs.Reading.{Consumes}
 use Rattle.tbl_stream.specs.declared.standing.Standing.{Standing}
 use Rattle.tbl_stream.specs.declared.standing.Standing.TheVariants.{Open, Full}
-use Rattle.tbl_stream.proofs.FeedingLemmas.{front_length, plays_quiet}
+use Rattle.tbl_stream.proofs.FeedingLemmas.{front_length, open_keeps, plays_quiet}
 use Rattle.tbl_stream.proofs.PlayingLemmas.{plays_none, plays_on}
 use Rattle.tbl_stream.proofs.Rounds.{stream_on}
 
@@ -22,66 +22,77 @@ prepend_nothing (Some xs) = refl
 
 module _ {B C : Type 0} (g : Ghosts B) (verdict : C → List ℕ → ℤ) where
   -- nothing more was read
-  pub reads_nothing : (m : Moment B C) (rest : List ℕ) → IsFront rest → m.played.engine.state.ended ≡ false → Reads g verdict Open m m (rest ++ []) rest
+  pub reads_nothing : (m : Moment B C) (rest : List ℕ) → IsFront rest → m.played.engine.state.ended ≡ false → Consumes g verdict Open m m (rest ++ []) rest
   reads_nothing m rest begun live = record {
-    feeds = record {
-      entries = [];
-      plays = plays_none g verdict Open m tt live;
-      behind = rest;
-      parts = append-nil rest;
-      leaves = begun;
-      keeps = refl;
-    };
+    entries = [];
+    plays = plays_none g verdict Open m tt live;
+    behind = rest;
+    parts = append-nil rest;
+    leaves = begun;
+    keeps = refl;
     near = omega (arith, front_length rest begun);
   }
 
   -- a piece was read and fed
-  pub reads_piece : (standing : Standing) (a b : Moment B C) (rest piece kept : List ℕ) → IsFront rest → length piece ≤ 4096 → Feeds g verdict standing a b (rest ++ piece) kept → Reads g verdict standing a b (rest ++ piece) kept
+  pub reads_piece : (standing : Standing) (a b : Moment B C) (rest piece kept : List ℕ) → IsFront rest → length piece ≤ 4096 → Feeds g verdict standing a b (rest ++ piece) kept → Consumes g verdict standing a b (rest ++ piece) kept
   reads_piece standing a b rest piece kept begun short f = record {
-    feeds = f;
-    near = omega (arith, front_length rest begun, length-append rest piece, length-append (joined (pairs_of f.entries)) f.behind, ap (λ (xs : List ℕ). length xs) f.parts);
+    entries = f.played.entries;
+    plays = f.played.plays;
+    behind = f.behind;
+    parts = f.played.parts;
+    leaves = f.leaves;
+    keeps = f.keeps;
+    near = omega (arith, front_length rest begun, length-append rest piece, length-append (joined (pairs_of f.played.entries)) f.behind, ap (λ (xs : List ℕ). length xs) f.played.parts);
   }
 
   -- what was read before it was played, but for what the stream kept
-  pub reads_on : (standing : Standing) (a b c : Moment B C) (first read rest more kept : List ℕ) → PlaysOf g verdict Open a b (first ++ read) rest → Reads g verdict standing b c (rest ++ more) kept → Reads g verdict standing a c (first ++ (read ++ more)) kept
+  pub reads_on : (standing : Standing) (a b c : Moment B C) (first read rest more kept : List ℕ) → PlaysOf g verdict Open a b (first ++ read) rest → Consumes g verdict standing b c (rest ++ more) kept → Consumes g verdict standing a c (first ++ (read ++ more)) kept
   reads_on standing a b c first read rest more kept p r =
-      let longer : PlaysOf g verdict Open a b (first ++ (read ++ more)) (rest ++ more) = (
-        p.0,
-        p.1,
-        sym (append_assoc first read more) ∙ ap (λ (xs : List ℕ). xs ++ more) p.2 ∙ append_assoc (joined (pairs_of p.0)) rest more,
-      ) in
-      let f = r.feeds in
+      let longer : first ++ (read ++ more) ≡ joined (pairs_of p.entries) ++ (rest ++ more) =
+      sym (append_assoc first read more) ∙ ap (λ (xs : List ℕ). xs ++ more) p.parts ∙ append_assoc (joined (pairs_of p.entries)) rest more in
       record {
-        feeds = record {
-          entries = p.0 ++ f.entries;
-          plays = plays_on g verdict standing a b c p.0 f.entries p.1 f.plays;
-          behind = f.behind;
-          parts = stream_on (first ++ (read ++ more)) (rest ++ more) f.behind p.0 f.entries longer.2 f.parts;
-          leaves = f.leaves;
-          keeps = f.keeps;
-        };
+        entries = p.entries ++ r.entries;
+        plays = plays_on g verdict standing a b c p.entries r.entries p.plays r.plays;
+        behind = r.behind;
+        parts = stream_on (first ++ (read ++ more)) (rest ++ more) r.behind p.entries r.entries longer r.parts;
+        leaves = r.leaves;
+        keeps = r.keeps;
         near = r.near;
       }
 
   -- it ends as if there were no room
-  pub reads_stopped : (a b : Moment B C) (fed rest kept : List ℕ) → IsFront rest → PlaysOf g verdict Open a b fed rest → Reads g verdict Full a b fed kept
+  pub reads_stopped : (a b : Moment B C) (fed rest kept : List ℕ) → IsFront rest → PlaysOf g verdict Open a b fed rest → Consumes g verdict Full a b fed kept
   reads_stopped a b fed rest kept begun p = record {
-    feeds = record {
-      entries = p.0;
-      plays = plays_quiet g verdict Full a b p.0 tt p.1;
-      behind = rest;
-      parts = p.2;
-      leaves = tt;
-      keeps = tt;
-    };
+    entries = p.entries;
+    plays = plays_quiet g verdict Full a b p.entries tt p.plays;
+    behind = rest;
+    parts = p.parts;
+    leaves = tt;
+    keeps = tt;
     near = omega (arith, front_length rest begun);
   }
 
   -- so it was if the stream was open
-  pub reads_at : (standing : Standing) (m : Moment B C) (rest : List ℕ) → standing ≡ Open → IsFront rest → m.played.engine.state.ended ≡ false → Reads g verdict standing m m (rest ++ []) rest
-  reads_at standing m rest is begun live = subst (λ (s : Standing). Reads g verdict s m m (rest ++ []) rest) (sym is) (reads_nothing m rest begun live)
+  pub reads_at : (standing : Standing) (m : Moment B C) (rest : List ℕ) → standing ≡ Open → IsFront rest → m.played.engine.state.ended ≡ false → Consumes g verdict standing m m (rest ++ []) rest
+  reads_at standing m rest is begun live = subst (λ (s : Standing). Consumes g verdict s m m (rest ++ []) rest) (sym is) (reads_nothing m rest begun live)
+
+  -- an open stream keeps all that wasn't played
+  pub reads_open : (standing : Standing) (a b : Moment B C) (fed kept : List ℕ) → standing ≡ Open → Consumes g verdict standing a b fed kept → PlaysOf g verdict Open a b fed kept
+  reads_open standing a b fed kept is r =
+      let kept_is = (open_keeps standing r.behind kept is r.leaves r.keeps).0 in
+      record {
+        entries = r.entries;
+        plays = subst (λ (s : Standing). Plays g verdict s a b r.entries) is r.plays;
+        parts = r.parts ∙ ap (λ (xs : List ℕ). joined (pairs_of r.entries) ++ xs) (sym kept_is);
+        full = tt;
+      }
 
   -- ---- a reading from the start
 
   pub went_nothing : (m : Moment B C) (rest : List ℕ) → m.played.engine.state.ended ≡ false → PlaysOf g verdict Open m m (rest ++ []) rest
-  went_nothing m rest live = ([], plays_none g verdict Open m tt live, append-nil rest)
+  went_nothing m rest live = record {
+    entries = [];
+    plays = plays_none g verdict Open m tt live;
+    parts = append-nil rest;
+    full = tt;
+  }

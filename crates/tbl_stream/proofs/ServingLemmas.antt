@@ -33,7 +33,7 @@ use Rattle.tbl_stream.specs.Standing.{IsWritten, IsCutShort, Leaves, TellsWritte
 use Rattle.tbl_stream.specs.Feeding.{IsKept}
 use Rattle.tbl_stream.specs.Finishing.{status_of, WritesEnd, Finishes, FinishesUnbegun}
 use Rattle.tbl_stream.specs.Reading.{HasFailed}
-use Rattle.tbl_stream.specs.Serving.{IsStatus, IsEnded, EndsAs, Tells, Lives}
+use Rattle.tbl_stream.specs.Serving.{IsStatus, IsEnded, EndsAs, Tells, TellsFailures, Lives}
 use Rattle.tbl_stream.specs.declared.standing.Standing.{Standing}
 use Rattle.tbl_stream.specs.declared.standing.Standing.TheVariants.{Open, Bad, Full, BootFault, BootStopped, SinkFailed, Memory, Unwritten}
 use Rattle.tbl_kinds.specs.declared.entry.Entry.{Entry}
@@ -66,7 +66,7 @@ module _ {B C : Type 0} (g : Ghosts B) (verdict : C → List ℕ → ℤ) (o : O
     (served : IsServed g verdict o core.state.store.bank core.entries) (caused : IsCaused g o.bank core)
     (leaves : Leaves standing behind) (kept_is : IsKept standing behind kept) (at_end : standing ≡ Open → failed ≡ false → IsAtEnd r.left_then)
     (cause : HasFailed failed r.unread r.unread_then) (boot : TellsBoot standing core.state.ended core.entries) (sink_up : r.unwritten ≤ mid_faults)
-    (full : standing ≡ Full → (image_limit ≤ length core.entries) ⊎ (2 ^ 64 ≤ 1 + length read)) where
+    (full : standing ≡ Full → (image_limit ≤ length core.entries) ⊎ (2 ^ 64 ≤ 1 + length read)) (failures : TellsFailures r) where
   abbrev Ending : ℕ → Type 0
   Ending n = EndsAs n behind (IsAtEnd r.left_then) (Rose r.unread r.unread_then)
 
@@ -104,6 +104,7 @@ module _ {B C : Type 0} (g : Ghosts B) (verdict : C → List ℕ → ℤ) (o : O
     };
     full = λ is. full (is_full is);
     told = told;
+    failures = failures;
   }
 
   -- with an end record, whole or cut short
@@ -171,7 +172,7 @@ module _ {B C : Type 0} (g : Ghosts B) (laws : Laws g) (verdict : C → List ℕ
   }
 
 module _ {B C : Type 0} (g : Ghosts B) (laws : Laws g) (verdict : C → List ℕ → ℤ) (o : Opening B C) (first : IsFirst o.state) (r : Ran B)
-    (same : r.left_then ≡ r.left) (crash : g.tells_moments → LeavesOnly g.clock g.left_since o.bank r.bank_then (λ image. Shows o.state.store (store_of image))) where
+    (failures : TellsFailures r) (same : r.left_then ≡ r.left) (crash : g.tells_moments → LeavesOnly g.clock g.left_since o.bank r.bank_then (λ image. Shows o.state.store (store_of image))) where
   abbrev First : ℕ → Type 0
   First n = Boots g o.bank r [] [] n
 
@@ -194,6 +195,7 @@ module _ {B C : Type 0} (g : Ghosts B) (laws : Laws g) (verdict : C → List ℕ
     causes = record { sink = sink; fault = rose_at_fault g o.bank r [] [] rises boots; stop = rose_at_stop g o.bank r [] [] rises boots };
     full = λ is. absurd (never (inr (inr (inr is))));
     told = told;
+    failures = failures;
   }
 
   -- out of memory

@@ -10,10 +10,7 @@ use Rattle.tbl_history.proofs.TroubleLemmas.{still_lives, one_boot}
 use Rattle.tbl_session.specs.Session.{IsBooted, IsBrokenOff, BootsAs}
 use Rattle.tbl_stream.specs.Standing.{IsFront, Leaves, TellsBoot}
 use Rattle.tbl_stream.specs.Feeding.{IsKept}
-use Rattle.tbl_core.specs.declared.service.StartFault.{StartFault}
-use Rattle.tbl_core.specs.declared.service.StartFault.TheVariants.{Memory as NoMemory, BootFault as FirstFault, BootStopped as FirstStopped}
-use Rattle.tbl_kinds.specs.Transcript.{end_bytes}
-use Rattle.tbl_stream.specs.Finishing.{status_of, Taken, WritesEnd, Finishes, FinishesUnbegun}
+use Rattle.tbl_stream.specs.Finishing.{status_of}
 use Rattle.tbl_stream.specs.Serving.{IsEnded, IsStatus, EndsAs}
 use Rattle.tbl_stream.specs.declared.standing.Standing.{Standing}
 use Rattle.tbl_stream.specs.declared.standing.Standing.TheVariants.{Open, Bad, Full, BootFault, BootStopped, SinkFailed, Memory, Unwritten}
@@ -185,23 +182,3 @@ not_sink BootStopped failed whole is = λ e. omega (arith, e)
 not_sink SinkFailed failed whole is = λ e. is refl
 not_sink Memory failed whole is = λ e. omega (arith, e)
 not_sink Unwritten failed whole is = λ e. omega (arith, e)
-
--- no stream is reported as usage, whether its end was written or the sink failed inside it
-written_not_usage : (status result : ℕ) (bytes : List ℕ) (before after : Taken) → IsStatus status → WritesEnd status result bytes before after → result ≢ 2
-written_not_usage status result bytes before after is (inl written) = subst (λ n. n ≢ 2) (sym written.0) (known_not_usage status is)
-written_not_usage status result bytes before after is (inr failed) = λ two. omega (arith, failed.0, two)
-
-pub finished_not_usage : (standing : Standing) (failed whole : Bool) (result : ℕ) (bytes : List ℕ) (before after : Taken) → Finishes standing (status_of standing failed whole) result bytes before after → result ≢ 2
-finished_not_usage SinkFailed failed whole result bytes before after ends = λ two. omega (arith, ends.0, two)
-finished_not_usage Unwritten failed whole result bytes before after ends = λ two. omega (arith, ends.0, two)
-finished_not_usage Open failed whole result bytes before after ends = written_not_usage (status_of Open failed whole) result bytes before after (status_is Open failed whole) ends
-finished_not_usage Bad failed whole result bytes before after ends = written_not_usage 5 result bytes before after (status_is Bad failed whole) ends
-finished_not_usage Full failed whole result bytes before after ends = written_not_usage 13 result bytes before after (status_is Full failed whole) ends
-finished_not_usage BootFault failed whole result bytes before after ends = written_not_usage 7 result bytes before after (status_is BootFault failed whole) ends
-finished_not_usage BootStopped failed whole result bytes before after ends = written_not_usage 8 result bytes before after (status_is BootStopped failed whole) ends
-finished_not_usage Memory failed whole result bytes before after ends = written_not_usage 1 result bytes before after (status_is Memory failed whole) ends
-
-pub unbegun_not_usage : (fault : StartFault) (result : ℕ) (before after : Taken) → FinishesUnbegun fault result before after → result ≢ 2
-unbegun_not_usage NoMemory result before after ends = λ two. omega (arith, ends.0, two)
-unbegun_not_usage FirstFault result before after ends = written_not_usage 7 result (end_bytes 7 0 0) before after (inr (inl (inl refl))) ends
-unbegun_not_usage FirstStopped result before after ends = written_not_usage 8 result (end_bytes 8 0 0) before after (inr (inl (inr refl))) ends

@@ -1,5 +1,5 @@
 -- A step whose boot was the last.
-use Rattle.std.proofs.Common.{◌≡◌, [], ◌∷◌, true, false, Err, refl, subst, Result}
+use Rattle.std.proofs.Common.{◌≡◌, [], ◌∷◌, true, false, Err, subst, Result}
 use Rattle.tbl_core.specs.Engine.{Steps}
 use Rattle.tbl_core.specs.Service.{EngineView, AddsOne, core_of}
 use Rattle.tbl_core.specs.declared.service.StepFault.{StepFault}

@@ -1,11 +1,8 @@
 -- What a piece of the input leaves.
-use Rattle.std.specs.Prelude.{◌≡◌, ℕ, List, ◌++◌}
+use Rattle.std.specs.Prelude.{◌≡◌, ℕ, List}
 use Rattle.std.proofs.Common.{ℤ}
-use Rattle.tbl_kinds.specs.Records.{joined}
-use Rattle.tbl_kinds.specs.Transcript.{pairs_of}
-use Rattle.tbl_kinds.specs.declared.entry.Entry.{Entry}
 use Rattle.tbl_outside.specs.declared.bank.Bank.{Ghosts}
-use Rattle.tbl_stream.specs.Playing.{Moment, Plays}
+use Rattle.tbl_stream.specs.Playing.{Moment, PlaysOf}
 use Rattle.tbl_stream.specs.Standing.{Leaves}
 use Rattle.tbl_stream.specs.declared.standing.Standing.{Standing}
 use Rattle.tbl_stream.specs.declared.standing.Standing.TheVariants.{Open, Bad, Full, BootFault, BootStopped, SinkFailed, Memory, Unwritten}
@@ -30,9 +27,7 @@ IsKept _ behind kept = Unit {0}
 
 -- what was fed is the records of these entries, which were played, and after them what this standing says
 pub record Feeds {B C : Type 0} (g : Ghosts B) (verdict : C → List ℕ → ℤ) (standing : Standing) (old new : Moment B C) (fed kept : List ℕ) : Type 0 where
-  pub entries : List Entry
-  pub plays : Plays g verdict standing old new entries
   pub behind : List ℕ
-  pub parts : fed ≡ joined (pairs_of entries) ++ behind
+  pub played : PlaysOf g verdict standing old new fed behind
   pub leaves : Leaves standing behind
   pub keeps : IsKept standing behind kept

@@ -1,5 +1,5 @@
 -- The end of a stream.
-use Rattle.std.specs.Prelude.{◌≡◌, ◌⊎◌, ℕ, ◌%◌, ◌^◌, List, Option, Bool, if◌then◌else◌}
+use Rattle.std.specs.Prelude.{◌≡◌, ◌⊎◌, ℕ, ◌%◌, ◌^◌, List, Bool, if◌then◌else◌}
 use Rattle.std.specs.Io.KnownBytes.{append_known}
 use Rattle.tbl_kinds.specs.Transcript.{end_bytes}
 use Rattle.tbl_outside.specs.Counts.{Rose}
@@ -8,6 +8,7 @@ use Rattle.tbl_core.specs.declared.service.StartFault.{StartFault}
 use Rattle.tbl_core.specs.declared.service.StartFault.TheVariants.{Memory as NoMemory, BootFault as FirstFault, BootStopped as FirstStopped}
 use Rattle.tbl_stream.specs.Places.{place_of}
 use Rattle.tbl_stream.specs.Playing.{Played}
+use Rattle.tbl_stream.specs.Writing.{Taken}
 use Rattle.tbl_stream.specs.declared.standing.Standing.{Standing}
 use Rattle.tbl_stream.specs.declared.standing.Standing.TheVariants.{Open, Bad, Full, BootFault, BootStopped, SinkFailed, Memory, Unwritten}
 
@@ -21,10 +22,6 @@ status_of BootStopped failed whole = 8
 status_of SinkFailed failed whole = 4
 status_of Memory failed whole = 1
 status_of Unwritten failed whole = 1
-
--- what a sink had taken, if it shows it, and how often it had failed
-abbrev pub Taken : Type 0
-Taken = Option (List ℕ) × ℕ
 
 -- these bytes were written, or the sink failed inside them
 abbrev pub WritesEnd : ℕ → ℕ → List ℕ → Taken → Taken → Type 0
@@ -47,3 +44,8 @@ abbrev pub Finishes : Standing → ℕ → ℕ → List ℕ → Taken → Taken 
 Finishes SinkFailed status result bytes before after = (result ≡ 4) × (after.0 ≡ before.0)
 Finishes Unwritten status result bytes before after = (result ≡ 1) × (after.0 ≡ before.0) × (after.1 ≡ before.1)
 Finishes _ status result bytes before after = WritesEnd status result bytes before after
+
+-- the end record has the status that this standing says
+abbrev pub FinishesAs : {B C : Type 0} → Standing → Bool → Bool → ℕ → Played B C → Taken → Taken → Type 0
+FinishesAs standing failed whole result played before after =
+    let status = status_of standing failed whole in Finishes standing status result (end_at status played) before after

@@ -3,6 +3,8 @@ pub mod Standing
 pub mod Playing
 pub mod Feeding
 pub mod Finishing
+pub mod Opening
 pub mod Reading
 pub mod Serving
 pub mod Words
+pub mod Writing

@@ -1,9 +1,9 @@
 -- What was played of a stream, over whatever the engine had played before. The entries are a list that nobody keeps.
-use Rattle.std.specs.Prelude.{◌≡◌, ℕ, ◌+◌, ◌%◌, ◌^◌, List, ◌++◌, length, Option}
+use Rattle.std.specs.Prelude.{◌≡◌, ◌≤◌, ℕ, ◌+◌, ◌%◌, ◌^◌, false, List, [], ◌∷◌, ◌++◌, length, Option, Result, Ok, Err}
 use Rattle.std.specs.List.{AllByRecursion}
 use Rattle.std.proofs.Common.{ℤ}
-use Rattle.tbl_kinds.specs.Records.{IsRecord, joined}
-use Rattle.tbl_kinds.specs.Transcript.{pairs_of}
+use Rattle.tbl_kinds.specs.Records.{Pair, IsRecord, joined}
+use Rattle.tbl_kinds.specs.Transcript.{pair_of, pairs_of}
 use Rattle.tbl_kinds.specs.declared.entry.Entry.{Entry}
 use Rattle.tbl_kinds.specs.declared.request.Actor.{Actor}
 use Rattle.tbl_kinds.specs.declared.request.Request.{Request}
@@ -13,7 +13,7 @@ use Rattle.tbl_history.specs.Serving.{Continues}
 use Rattle.tbl_outside.specs.declared.bank.Bank.{Ghosts}
 use Rattle.tbl_outside.specs.declared.stream.Sink.{Ghosts as SinkGhosts}
 use Rattle.tbl_stream.specs.Places.{place_of}
-use Rattle.tbl_stream.specs.Standing.{TellsWritten, TellsCause, TellsBoot}
+use Rattle.tbl_stream.specs.Standing.{TellsWritten, TellsCause, TellsBoot, TellsFull, IsEnding, IsRefusal, IsStop, standing_after}
 use Rattle.tbl_stream.specs.declared.standing.Standing.{Standing}
 
 -- the engine, the place of the next entry in the transcript, and how many bytes the records have that were played
@@ -21,6 +21,14 @@ pub record Played (B C : Type 0) : Type 0 where
   pub engine : EngineView B C
   pub place : ℕ
   pub offset : ℕ
+
+-- a further record may be played
+abbrev pub IsLive : {B C : Type 0} → Played B C → Type 0
+IsLive played = played.engine.state.ended ≡ false
+
+-- nothing was played of the stream, whatever the engine had played before
+abbrev pub unplayed : {B C : Type 0} → EngineView B C → Played B C
+unplayed engine = record { engine = engine; place = place_of engine.played; offset = 0 }
 
 -- and the bytes after those records that were fed
 pub record Streaming (B C : Type 0) : Type 0 where
@@ -54,13 +62,38 @@ pub record Plays {B C : Type 0} (g : Ghosts B) (verdict : C → List ℕ → ℤ
   pub written : TellsWritten standing old.played.place entries old.taken new.taken
   pub cause : TellsCause standing old.unwritten new.unwritten
   pub boot : TellsBoot standing new.played.engine.state.ended entries
+  -- no write that failed is forgotten
+  pub count : old.unwritten ≤ new.unwritten
 
 -- so it was of the records before these bytes that are left
-abbrev pub PlaysOf : {B C : Type 0} → Ghosts B → (C → List ℕ → ℤ) → Standing → Moment B C → Moment B C → List ℕ → List ℕ → Type 0
-PlaysOf g verdict standing old new bytes left = (entries : List Entry) × Plays g verdict standing old new entries × (bytes ≡ joined (pairs_of entries) ++ left)
+pub record PlaysOf {B C : Type 0} (g : Ghosts B) (verdict : C → List ℕ → ℤ) (standing : Standing) (old new : Moment B C) (bytes left : List ℕ) : Type 0 where
+  pub entries : List Entry
+  pub plays : Plays g verdict standing old new entries
+  pub parts : bytes ≡ joined (pairs_of entries) ++ left
+  -- a stream that is full has played as many requests as a table may have images
+  pub full : TellsFull standing new.played.engine.played
+
+-- a record was played, and a further one may follow or the stream is over; or nothing was played, and the standing says why
+abbrev pub PlaysRecord : {B C : Type 0} → Ghosts B → (C → List ℕ → ℤ) → Moment B C → Moment B C → Pair → Result (Option Standing) Standing → Type 0
+PlaysRecord g verdict old new pair (Ok stop) = IsStop stop × ((e : Entry) × (pair_of e ≡ pair) × Plays g verdict (standing_after stop) old new (e ∷ []))
+PlaysRecord g verdict old new pair (Err standing) = IsRefusal standing × TellsFull standing new.played.engine.played × Plays g verdict standing old new []
 
 -- the entry is of this request, with a reply that fits the transcript
 pub record IsEntryOf (actor : Actor) (request : Request) (e : Entry) : Type 0 where
   pub actor_is : e.actor ≡ actor
   pub request_is : e.request ≡ request
   pub small : IsSmall e
+
+-- a request became this entry, and this is to be reported once that is written
+pub record Answers {B C : Type 0} (g : Ghosts B) (verdict : C → List ℕ → ℤ) (old new : EngineView B C) (asked : Actor × Request) (e : Entry) (stop : Option Standing) : Type 0 where
+  pub entry : IsEntryOf asked.0 asked.1 e
+  pub goes : Goes g verdict old new (e ∷ [])
+  pub ending : IsEnding stop
+  pub boot : TellsBoot (standing_after stop) new.state.ended (e ∷ [])
+
+-- a request wasn't played, for this reason; at most the images that tables have had were counted again
+pub record Refuses {B C : Type 0} (g : Ghosts B) (verdict : C → List ℕ → ℤ) (old new : EngineView B C) (standing : Standing) : Type 0 where
+  pub refusal : IsRefusal standing
+  pub full : TellsFull standing new.played
+  pub goes : Goes g verdict old new []
+  pub ended : new.state.ended ≡ old.state.ended

@@ -1,11 +1,18 @@
 -- What was read of the input.
-use Rattle.std.specs.Prelude.{◌≡◌, ◌⊎◌, ℕ, ◌+◌, ◌^◌, ◌<◌, ◌≤◌, List, length, Bool, true, false, Option, Some, None}
+use Rattle.std.specs.Prelude.{◌≡◌, ◌⊎◌, ℕ, ◌+◌, ◌^◌, ◌<◌, ◌≤◌, List, ◌++◌, length, Bool, true, false, Option, Some, None}
+use Rattle.std.specs.Io.KnownBytes.{prepend_known, IsAtEnd}
 use Rattle.std.proofs.Common.{ℤ}
+use Rattle.tbl_kinds.specs.Records.{joined}
+use Rattle.tbl_kinds.specs.Transcript.{pairs_of}
+use Rattle.tbl_kinds.specs.declared.entry.Entry.{Entry}
 use Rattle.tbl_core.specs.Service.{image_limit}
 use Rattle.tbl_outside.specs.Counts.{Rose}
 use Rattle.tbl_outside.specs.declared.bank.Bank.{Ghosts}
-use Rattle.tbl_stream.specs.Feeding.{Feeds}
-use Rattle.tbl_stream.specs.Playing.{Moment}
+use Rattle.tbl_outside.specs.declared.stream.Sink.{Ghosts as SinkGhosts}
+use Rattle.tbl_outside.specs.declared.stream.Source.{Ghosts as SourceGhosts}
+use Rattle.tbl_stream.specs.Feeding.{IsKept}
+use Rattle.tbl_stream.specs.Playing.{Moment, Plays, Streaming, IsLive}
+use Rattle.tbl_stream.specs.Standing.{IsFront, Leaves}
 use Rattle.tbl_stream.specs.declared.standing.Standing.{Standing}
 use Rattle.tbl_stream.specs.declared.standing.Standing.TheVariants.{Open, Full}
 
@@ -33,7 +40,41 @@ ReadsOn (Some failed) standing count at_end = EndsReading standing failed at_end
 abbrev pub HasEnough : Standing → ℕ → ℕ → Type 0
 HasEnough standing played count = standing ≡ Full → (image_limit ≤ played) ⊎ (2 ^ 64 ≤ 1 + count)
 
--- all that was fed before and was read was fed, and at most the beginning of a record and one piece of it weren't played
-pub record Reads {B C : Type 0} (g : Ghosts B) (verdict : C → List ℕ → ℤ) (standing : Standing) (old new : Moment B C) (fed kept : List ℕ) : Type 0 where
-  pub feeds : Feeds g verdict standing old new fed kept
-  pub near : length feeds.behind ≤ 36931
+-- a stream that reads on
+pub record IsOpen {B C : Type 0} (stream : Streaming B C) : Type 0 where
+  pub standing_is : stream.standing ≡ Open
+  pub begun : IsFront stream.rest
+  pub live : IsLive stream.played
+
+-- a stream, what its source had still to give and what its sink had taken by then, if they show it, and how often each had failed
+pub record Reading (B C : Type 0) : Type 0 where
+  pub stream : Streaming B C
+  pub left : Option (List ℕ)
+  pub unread : ℕ
+  pub taken : Option (List ℕ)
+  pub unwritten : ℕ
+
+abbrev pub reading : {B C S K : Type 0} → SourceGhosts S → SinkGhosts K → Streaming B C → S → K → Reading B C
+reading s k stream source sink = record { stream = stream; left = s.left source; unread = s.faults source; taken = k.taken sink; unwritten = k.faults sink }
+
+abbrev pub moment_of : {B C : Type 0} → Reading B C → Moment B C
+moment_of r = record { played = r.stream.played; taken = r.taken; unwritten = r.unwritten }
+
+-- what was fed is the records of these entries, which were played, and what this standing says: at most the beginning of a record and one piece
+pub record Consumes {B C : Type 0} (g : Ghosts B) (verdict : C → List ℕ → ℤ) (standing : Standing) (old new : Moment B C) (fed kept : List ℕ) : Type 0 where
+  pub entries : List Entry
+  pub plays : Plays g verdict standing old new entries
+  pub behind : List ℕ
+  pub parts : fed ≡ joined (pairs_of entries) ++ behind
+  pub leaves : Leaves standing behind
+  pub keeps : IsKept standing behind kept
+  pub near : length behind ≤ 36931
+
+-- what was read was fed after what was kept, and whether the reading ended with that: None if it goes on, and else whether a read failed
+pub record Reads {B C : Type 0} (g : Ghosts B) (verdict : C → List ℕ → ℤ) (ended : Option Bool) (old new : Reading B C) : Type 0 where
+  pub read : List ℕ
+  pub came : old.left ≡ prepend_known read new.left
+  pub fed : Consumes g verdict new.stream.standing (moment_of old) (moment_of new) (old.stream.rest ++ read) new.stream.rest
+  pub ends : ReadsOn ended new.stream.standing (length read) (IsAtEnd new.left)
+  pub full : HasEnough new.stream.standing new.stream.played.engine.played (length read)
+  pub cause : HasFailedAtEnd ended old.unread new.unread

@@ -57,6 +57,11 @@ pub record Tells (status : ℕ) (entries : List Entry) (before after : Option (L
 
 -- ---- the whole
 
+-- A failed read is reported by 3, unless the service ended before its input did (1, 4, 7, 8); and a failed write by 4.
+pub record TellsFailures {B : Type 0} (r : Ran B) : Type 0 where
+  pub reads : IsEnded r.status → (r.status ≢ 3) → r.unread_then ≡ r.unread
+  pub writes : (r.status ≢ 4) → r.unwritten_then ≡ r.unwritten
+
 -- Whatever came in, and however much: what was served is one history whose every answer is the sequential service's (`IsServed`), of the
 -- records of what was read, in their order. The sink took the spellings of its entries, each before the next record was looked for.
 -- Nobody keeps it.
@@ -80,8 +85,4 @@ pub record Lives {B C : Type 0} (g : Ghosts B) (verdict : C → List ℕ → ℤ
   -- were read
   pub full : r.status ≡ 13 → (image_limit ≤ length entries) ⊎ (2 ^ 64 ≤ 1 + length read)
   pub told : Tells r.status entries r.taken r.taken_then
-
--- A failed read is reported by 3, unless the service ended before its input did (1, 4, 7, 8); and a failed write by 4.
-pub record TellsFailures {B : Type 0} (r : Ran B) : Type 0 where
-  pub reads : IsEnded r.status → (r.status ≢ 3) → r.unread_then ≡ r.unread
-  pub writes : (r.status ≢ 4) → r.unwritten_then ≡ r.unwritten
+  pub failures : TellsFailures r

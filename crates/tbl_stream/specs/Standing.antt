@@ -6,7 +6,6 @@ use Rattle.tbl_kinds.specs.Records.{Pair, IsRecord, spelling}
 use Rattle.tbl_kinds.specs.Transcript.{entry_bytes}
 use Rattle.tbl_kinds.specs.declared.entry.Entry.{Entry}
 use Rattle.tbl_outside.specs.Counts.{Rose}
-use Rattle.tbl_outside.specs.Streams.{TakesFront}
 use Rattle.tbl_core.specs.Service.{EngineView, engine_limit, image_limit}
 use Rattle.tbl_session.specs.Trouble.{EndsInBoot}
 use Rattle.tbl_stream.specs.Places.{place_of, told_from}
@@ -123,16 +122,3 @@ abbrev pub IsRefusal : Standing → Type 0
 IsRefusal Full = Unit {0}
 IsRefusal Memory = Unit {0}
 IsRefusal _ = ⊥
-
--- why a write didn't go well, and what it left: the sink failed within the piece, or memory ran out before
-abbrev pub TellsStop : Standing → Option (List ℕ) → Option (List ℕ) → List ℕ → Type 0
-TellsStop SinkFailed before after piece = TakesFront before after piece
-TellsStop Unwritten before after piece = after ≡ before
-TellsStop _ before after piece = ⊥
-
--- a stop is the sink's failure, or no memory for a spelling; if it isn't the first, no write failed
-abbrev pub TellsWhy : Option Standing → ℕ → ℕ → Type 0
-TellsWhy None before after = after ≡ before
-TellsWhy (Some SinkFailed) before after = Rose before after
-TellsWhy (Some Unwritten) before after = after ≡ before
-TellsWhy (Some _) before after = ⊥

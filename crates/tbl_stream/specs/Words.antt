@@ -15,3 +15,7 @@ given_bytes text = text.list
 
 abbrev pub Asks : List Buffer → Admitted → Type 0
 Asks words admit = Spells (map given_bytes words) admit
+
+-- the words are none that are known
+abbrev pub IsUnknown : List Buffer → Type 0
+IsUnknown words = (admit : Admitted) → ¬ Asks words admit

@@ -1,14 +1,14 @@
 //! Ends the transcript.
 
 ghost use Rattle.std.specs.Prelude.{◌≡◌, ◌≤◌};
-ghost use Rattle.tbl_kinds.specs.Transcript.{end_bytes};
-ghost use Rattle.tbl_stream.specs.Finishing.{Finishes, FinishesUnbegun, WritesEnd, end_at, status_of};
+ghost use Rattle.tbl_stream.specs.Finishing.{FinishesAs, FinishesUnbegun, status_of};
+ghost use Rattle.tbl_stream.specs.Writing.{taken_of};
 
 use crate::playback::Playback;
 use crate::standing::Standing;
+use crate::writing::write_end;
 use tbl_core::StartFault;
-use tbl_outside::{Bank, Failed, Sink, Validator};
-use transcript::end_record;
+use tbl_outside::{Bank, Sink, Validator};
 
 /// The input was read to its end, and all of it was played.
 const DONE: u8 = 0;
@@ -20,7 +20,7 @@ pub(crate) const NO_MEMORY: u8 = 1;
 const SOURCE_FAILED: u8 = 3;
 
 /// A write failed.
-const SINK_FAILED: u8 = 4;
+pub(crate) const SINK_FAILED: u8 = 4;
 
 /// A bad record, or the beginning of one at the end of the input.
 const BAD_RECORD: u8 = 5;
@@ -65,8 +65,7 @@ pub(crate) fn finish<B: Bank, C: Validator, K: Sink>(
     is_whole: bool,
     sink: &mut K,
 ) -> u8
-    ensures finishes { let status = status_of standing read_failed is_whole in
-        Finishes standing status result (end_at status playback.old) (K.taken sink.old, K.faults sink.old) (K.taken sink.new, K.faults sink.new) }
+    ensures ends { FinishesAs standing read_failed is_whole result playback.old (taken_of K.Sink sink.old) (taken_of K.Sink sink.new) }
     ensures same { playback.new ≡ playback.old }
     ensures count { K.faults sink.old ≤ K.faults sink.new }
 {
@@ -78,32 +77,17 @@ pub(crate) fn finish<B: Bank, C: Validator, K: Sink>(
         | Standing::Full
         | Standing::BootFault
         | Standing::BootStopped
-        | Standing::Memory => match playback.tell_end(status, sink) {
-            Ok(()) => status,
-            Err(Failed) => SINK_FAILED,
-        },
-    }
-}
-
-/// Writes the end record of a stream that has no entry.
-fn tell_empty_end<K: Sink>(status: u8, sink: &mut K) -> u8
-    ensures ends { WritesEnd status result (end_bytes status 0 0) (K.taken sink.old, K.faults sink.old) (K.taken sink.new, K.faults sink.new) }
-    ensures count { K.faults sink.old ≤ K.faults sink.new }
-{
-    match sink.write(&end_record(status, 0, 0)) {
-        Ok(()) => status,
-        Err(Failed) => SINK_FAILED,
+        | Standing::Memory => playback.tell_end(status, sink),
     }
 }
 
 /// Ends a stream whose service didn't begin: its transcript is only the end record. If memory ran out there is none.
 pub(crate) fn finish_unbegun<K: Sink>(fault: StartFault, sink: &mut K) -> u8
-    ensures finishes { FinishesUnbegun fault result (K.taken sink.old, K.faults sink.old) (K.taken sink.new, K.faults sink.new) }
-    ensures count { K.faults sink.old ≤ K.faults sink.new }
+    ensures { FinishesUnbegun fault result (taken_of K.Sink sink.old) (taken_of K.Sink sink.new) }
 {
     match fault {
         StartFault::Memory => NO_MEMORY,
-        StartFault::BootFault => tell_empty_end(BANK_FAILED, sink),
-        StartFault::BootStopped => tell_empty_end(BANK_STOPPED, sink),
+        StartFault::BootFault => write_end(BANK_FAILED, 0, 0, sink),
+        StartFault::BootStopped => write_end(BANK_STOPPED, 0, 0, sink),
     }
 }

@@ -1,28 +1,23 @@
 //! Plays whole records at the front of bytes, and writes each entry before the next record is looked for.
 
-ghost use Rattle.std.specs.Prelude.{◌≡◌, ◌≢◌, ⊤, ◌+◌, ◌%◌, ◌^◌, ◌<◌, ◌≤◌, [], ◌∷◌, length, drop, false, IfOk, IfErr, OnOk, OnErr, MatchOption};
-ghost use Rattle.std.specs.Io.KnownBytes.{append_known};
+ghost use Rattle.std.specs.Prelude.{◌≡◌, ◌≢◌, ◌+◌, ◌%◌, ◌^◌, ◌<◌, ◌≤◌, length, drop, IfOk, IfErr, IfSome, MatchOption};
 ghost use Rattle.tbl_kinds.specs.Records.{IsRecord, spelling};
-ghost use Rattle.tbl_kinds.specs.Transcript.{pair_of};
-ghost use Rattle.tbl_kinds.specs.declared.entry.Entry.{Entry as TheEntry};
-ghost use Rattle.tbl_outside.specs.Counts.{Rose};
-ghost use Rattle.tbl_outside.specs.Streams.{TakesFront};
 ghost use Rattle.tbl_stream.specs.Places.{place_of};
-ghost use Rattle.tbl_stream.specs.Finishing.{end_at};
-ghost use Rattle.tbl_stream.specs.Playing.{Plays, PlaysOf, moment};
+ghost use Rattle.tbl_stream.specs.Finishing.{WritesEnd, end_at};
+ghost use Rattle.tbl_stream.specs.Playing.{IsLive, PlaysOf, PlaysRecord, moment, unplayed};
+ghost use Rattle.tbl_stream.specs.Standing.{Leaves, IsItem, IsQuiet, standing_after};
+ghost use Rattle.tbl_stream.specs.Writing.{taken_of};
 ghost use Rattle.tbl_stream.specs.declared.standing.Standing.TheVariants.{Full};
-ghost use Rattle.tbl_stream.specs.Standing.{Leaves, IsItem, IsQuiet, IsRefusal, IsStop, TellsFull, standing_after};
 
 use crate::standing::Standing;
 use crate::stepping::{answer, first_stop};
-use crate::writing::write;
+use crate::writing::{write, write_end};
 use session_records::{Next, next_record};
 use std::alloc::Global;
 use std::marker::Model;
 use tbl_core::Engine;
 use tbl_kinds::{Actor, Memory, Request};
-use tbl_outside::{Bank, Failed, Sink, Validator};
-use transcript::end_record;
+use tbl_outside::{Bank, Sink, Validator};
 
 /// How many places there are: the one after FFFFFFFE is 0 again, since FFFFFFFF begins the end record.
 const PLACE_COUNT: u64 = 4_294_967_295;
@@ -91,9 +86,7 @@ impl<B: Bank, C: Validator> Model for Playback<B, C> {
 impl<B: Bank, C: Validator> Playback<B, C> {
     /// A stream before anything was played. An error gives the engine back if memory ran out.
     pub(crate) fn make(alloc: Global, engine: Engine<B, C>) -> Result<Playback<B, C>, Engine<B, C>>
-        ensures engine { IfOk result (λ p. p.engine ≡ engine) }
-        ensures place { IfOk result (λ p. p.place ≡ place_of engine.played) }
-        ensures offset { IfOk result (λ p. p.offset ≡ 0) }
+        ensures ok { IfOk result (λ p. p ≡ unplayed engine) }
         ensures err { IfErr result (λ back. back ≡ engine) }
     {
         let Ok(out) = Vec::with_capacity(alloc, SHORT_SPELLING) else {
@@ -127,13 +120,8 @@ impl<B: Bank, C: Validator> Playback<B, C> {
     ) -> Result<Option<Standing>, Standing>
         requires is_record { IsRecord (record { actor = actor; request = request }) }
         requires used { used ≡ length (spelling (record { actor = actor; request = request })) }
-        requires live { self.old.engine.state.ended ≡ false }
-        ensures played { IfOk result (λ stop. (e : TheEntry) × (pair_of e ≡ record { actor = actor; request = request })
-            × Plays B.Bank C.verdict (standing_after stop) (moment K.Sink self.old sink.old) (moment K.Sink self.new sink.new) (e ∷ [])) }
-        ensures stop { IfOk result IsStop }
-        ensures full { IfErr result (λ standing. TellsFull standing self.new.engine.played) }
-        ensures refused { IfErr result (λ standing. IsRefusal standing × Plays B.Bank C.verdict standing (moment K.Sink self.old sink.old) (moment K.Sink self.new sink.new) []) }
-        ensures count { K.faults sink.old ≤ K.faults sink.new }
+        requires live { IsLive self.old }
+        ensures { PlaysRecord B.Bank C.verdict (moment K.Sink self.old sink.old) (moment K.Sink self.new sink.new) (record { actor = actor; request = request }) result }
     {
         let (entry, ending) = answer(&mut self.engine, actor, request)?;
         let stop = write(&mut self.out, self.place, &entry, sink);
@@ -144,14 +132,12 @@ impl<B: Bank, C: Validator> Playback<B, C> {
 
     /// Plays the record at a place if one is whole, and answers None once its entry was written; else what is in its way.
     fn play_next<K: Sink>(&mut self, bytes: &[u8], at: &mut usize, sink: &mut K) -> Option<Standing>
-        requires live { self.old.engine.state.ended ≡ false }
+        requires live { IsLive self.old }
         requires within { at.old ≤ length bytes.now }
         ensures within { at.new ≤ length bytes.now }
         ensures further { MatchOption result (at.old < at.new) (λ _. at.old ≤ at.new) }
-        ensures leaves { MatchOption result ⊤ (λ standing. Leaves standing (drop at.new bytes.now)) }
-        ensures full { MatchOption result ⊤ (λ standing. TellsFull standing self.new.engine.played) }
+        ensures leaves { IfSome result (λ standing. Leaves standing (drop at.new bytes.now)) }
         ensures plays { PlaysOf B.Bank C.verdict (standing_after result) (moment K.Sink self.old sink.old) (moment K.Sink self.new sink.new) (drop at.old bytes.now) (drop at.new bytes.now) }
-        ensures count { K.faults sink.old ≤ K.faults sink.new }
     {
         let mut request = Request::Exit;
         match next_item(self.alloc, &bytes[*at..], &mut request) {
@@ -173,14 +159,12 @@ impl<B: Bank, C: Validator> Playback<B, C> {
         at: &mut usize,
         sink: &mut K,
     ) -> Standing
-        requires live { self.old.engine.state.ended ≡ false }
+        requires live { IsLive self.old }
         requires within { at.old ≤ length bytes.now }
         ensures within { at.new ≤ length bytes.now }
         ensures further { at.old ≤ at.new }
         ensures leaves { Leaves result (drop at.new bytes.now) }
-        ensures full { TellsFull result self.new.engine.played }
         ensures plays { PlaysOf B.Bank C.verdict result (moment K.Sink self.old sink.old) (moment K.Sink self.new sink.new) (drop at.old bytes.now) (drop at.new bytes.now) }
-        ensures count { K.faults sink.old ≤ K.faults sink.new }
     {
         'records: loop {
             if let Some(standing) = self.play_next(bytes, at, sink) {
@@ -189,14 +173,11 @@ impl<B: Bank, C: Validator> Playback<B, C> {
         }
     }
 
-    /// Writes the end record.
-    pub(crate) fn tell_end<K: Sink>(&self, status: u8, sink: &mut K) -> Result<(), Failed>
-        ensures ok { OnOk result (K.taken sink.new ≡ append_known (K.taken sink.old) (end_at status self.now)) }
-        ensures err { OnErr result (TakesFront (K.taken sink.old) (K.taken sink.new) (end_at status self.now)) }
-        ensures still { OnOk result (K.faults sink.new ≡ K.faults sink.old) }
-        ensures cause { OnErr result (Rose (K.faults sink.old) (K.faults sink.new)) }
+    /// Writes the end record, and answers this status, or that the sink failed.
+    pub(crate) fn tell_end<K: Sink>(&self, status: u8, sink: &mut K) -> u8
+        ensures ends { WritesEnd status result (end_at status self.now) (taken_of K.Sink sink.old) (taken_of K.Sink sink.new) }
         ensures count { K.faults sink.old ≤ K.faults sink.new }
     {
-        sink.write(&end_record(status, self.place, self.offset))
+        write_end(status, self.place, self.offset, sink)
     }
 }

@@ -1,12 +1,8 @@
 //! Reads the input piece by piece, and feeds it to the stream.
 
-ghost use Rattle.std.specs.Prelude.{◌≡◌, ℕ, ◌≤◌, List, ◌++◌, length, false};
-ghost use Rattle.std.specs.Io.KnownBytes.{prepend_known, IsAtEnd};
+ghost use Rattle.std.specs.Prelude.{◌≡◌, Some, length};
 ghost use Rattle.tbl_session.specs.Inputs.{piece_limit};
-ghost use Rattle.tbl_stream.specs.Playing.{moment};
-ghost use Rattle.tbl_stream.specs.Reading.{Reads, ReadsOn, EndsReading, HasFailed, HasFailedAtEnd, HasEnough};
-ghost use Rattle.tbl_stream.specs.Standing.{IsFront, TellsFull};
-ghost use Rattle.tbl_stream.specs.declared.standing.Standing.TheVariants.{Open};
+ghost use Rattle.tbl_stream.specs.Reading.{IsOpen, Reads, reading};
 
 use crate::stream::{Fed, Stream};
 use tbl_outside::{Bank, Failed, Sink, Source, Validator};
@@ -21,17 +17,10 @@ fn read_piece<B: Bank, C: Validator, S: Source, K: Sink>(
     source: &mut S,
     sink: &mut K,
 ) -> Option<bool>
-    requires is_open { stream.old.standing ≡ Open }
-    requires begun { IsFront stream.old.rest }
-    requires live { stream.old.played.engine.state.ended ≡ false }
+    requires is_open { IsOpen stream.old }
     requires room { length piece.old ≡ piece_limit }
     ensures room { length piece.new ≡ piece_limit }
-    ensures reads { (read : List ℕ) × (S.left source.old ≡ prepend_known read (S.left source.new))
-        × Reads B.Bank C.verdict stream.new.standing (moment K.Sink stream.old.played sink.old) (moment K.Sink stream.new.played sink.new) (stream.old.rest ++ read) stream.new.rest
-        × ReadsOn result stream.new.standing (length read) (IsAtEnd (S.left source.new)) }
-    ensures full { TellsFull stream.new.standing stream.new.played.engine.played }
-    ensures source_cause { HasFailedAtEnd result (S.faults source.old) (S.faults source.new) }
-    ensures count { K.faults sink.old ≤ K.faults sink.new }
+    ensures reads { Reads B.Bank C.verdict result (reading S.Source K.Sink stream.old source.old sink.old) (reading S.Source K.Sink stream.new source.new sink.new) }
 {
     match source.read(piece) {
         Err(Failed) => Some(true),
@@ -54,15 +43,8 @@ pub(crate) fn read_all<B: Bank, C: Validator, S: Source, K: Sink>(
     source: &mut S,
     sink: &mut K,
 ) -> bool
-    requires is_open { stream.old.standing ≡ Open }
-    requires begun { IsFront stream.old.rest }
-    requires live { stream.old.played.engine.state.ended ≡ false }
-    ensures reads { (read : List ℕ) × (S.left source.old ≡ prepend_known read (S.left source.new))
-        × Reads B.Bank C.verdict stream.new.standing (moment K.Sink stream.old.played sink.old) (moment K.Sink stream.new.played sink.new) (stream.old.rest ++ read) stream.new.rest
-        × EndsReading stream.new.standing result (IsAtEnd (S.left source.new))
-        × HasEnough stream.new.standing stream.new.played.engine.played (length read) }
-    ensures source_cause { HasFailed result (S.faults source.old) (S.faults source.new) }
-    ensures count { K.faults sink.old ≤ K.faults sink.new }
+    requires { IsOpen stream.old }
+    ensures { Reads B.Bank C.verdict (Some result) (reading S.Source K.Sink stream.old source.old sink.old) (reading S.Source K.Sink stream.new source.new sink.new) }
 {
     let mut piece = [0u8; PIECE_LENGTH];
     'reads: for _reads in 0..u64::MAX {

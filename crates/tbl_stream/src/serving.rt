@@ -1,16 +1,15 @@
 //! A service from its start to the end of its input.
 
-ghost use Rattle.std.specs.Prelude.{◌≡◌, ◌≢◌, ℕ, ◌≤◌, ◌<◌, ◌^◌, [], false, All};
+ghost use Rattle.std.specs.Prelude.{◌≡◌, ◌≤◌, []};
 ghost use Rattle.tbl_kinds.specs.Admitted.{Admitted};
 ghost use Rattle.tbl_kinds.specs.Places.{bank_size};
-ghost use Rattle.tbl_core.specs.Service.{IsAfter, core_of};
-ghost use Rattle.tbl_outside.specs.declared.validator.KitEntry.{KitEntry as Entry};
+ghost use Rattle.tbl_core.specs.Service.{core_of};
 ghost use Rattle.tbl_session.specs.Openings.{Opening};
 ghost use Rattle.tbl_session.specs.Session.{opening_of, ran};
 ghost use Rattle.tbl_history.specs.Serving.{Serves};
-ghost use Rattle.tbl_stream.specs.Serving.{Lives, TellsFailures};
-ghost use Rattle.tbl_stream.specs.Words.{Asks};
-ghost use Rattle.tbl_stream.specs.declared.standing.Standing.TheVariants.{Open};
+ghost use Rattle.tbl_stream.specs.Opening.{IsFresh, SeldomAsked};
+ghost use Rattle.tbl_stream.specs.Serving.{Lives};
+ghost use Rattle.tbl_stream.specs.Words.{Asks, IsUnknown};
 
 use crate::finishing::finish_unbegun;
 use crate::opening::begin;
@@ -30,16 +29,9 @@ fn play<B: Bank, C: Validator, S: Source, K: Sink>(
     source: &mut S,
     sink: &mut K,
 ) -> u8
-    requires is_open { stream.old.standing ≡ Open }
-    requires rest { stream.old.rest ≡ [] }
-    requires place { stream.old.played.place ≡ 0 }
-    requires offset { stream.old.played.offset ≡ 0 }
-    requires live { stream.old.played.engine.state.ended ≡ false }
-    requires after { IsAfter [] stream.old.played.engine }
-    ensures lives { (o : Opening B C) → Serves B.Bank C.verdict o (core_of [] stream.old.played.engine)
+    requires { IsFresh stream.old }
+    ensures { (o : Opening B C) → Serves B.Bank C.verdict o (core_of [] stream.old.played.engine)
         → Lives B.Bank C.verdict o (ran S.Source K.Sink (source.old, sink.old) (source.new, sink.new) (result, stream.new.played.engine.state.store.bank)) }
-    ensures failures { TellsFailures (ran S.Source K.Sink (source.old, sink.old) (source.new, sink.new) (result, stream.new.played.engine.state.store.bank)) }
-    ensures not_usage { result ≢ 2 }
 {
     let read_failed = read_all(stream, source, sink);
     stream.finish(read_failed, sink)
@@ -55,10 +47,8 @@ fn serve_all<S: Source, K: Sink, B: Bank, C: Validator>(
     admit: Admit,
 ) -> (u8, B)
     requires room { bank_size ≤ B.size bank }
-    requires asked { All (λ (e : Entry C). C.asked e.check < 2 ^ 62) kit.items }
-    ensures not_usage { result.0 ≢ 2 }
+    requires asked { SeldomAsked C.asked kit.items }
     ensures lives { Lives B.Bank C.verdict (opening_of B.Bank bank kit.items admit) (ran S.Source K.Sink (source.old, sink.old) (source.new, sink.new) result) }
-    ensures failures { TellsFailures (ran S.Source K.Sink (source.old, sink.old) (source.new, sink.new) result) }
     ensures room { bank_size ≤ B.size result.1 }
 {
     match begin(alloc, bank, kit, admit) {
@@ -83,13 +73,12 @@ pub fn serve<S: Source, K: Sink, B: Bank, C: Validator>(
     kit: Vec<KitEntry<C>>,
 ) -> (u8, B)
     requires room { bank_size ≤ B.size bank }
-    requires asked { All (λ (e : Entry C). C.asked e.check < 2 ^ 62) kit.items }
-    ensures usage { result.0 ≡ 2 → (admit : Admitted) → ¬ Asks words.now admit }
-    ensures unknown { ((admit : Admitted) → ¬ Asks words.now admit) → result.0 ≡ 2 }
-    ensures untouched { ((admit : Admitted) → ¬ Asks words.now admit) → (source.new ≡ source.old) × (sink.new ≡ sink.old) × (result.1 ≡ bank) }
+    requires asked { SeldomAsked C.asked kit.items }
+    ensures usage { result.0 ≡ 2 → IsUnknown words.now }
+    ensures unknown { IsUnknown words.now → result.0 ≡ 2 }
+    ensures untouched { IsUnknown words.now → (source.new ≡ source.old) × (sink.new ≡ sink.old) × (result.1 ≡ bank) }
     ensures lives { (admit : Admitted) → Asks words.now admit
         → Lives B.Bank C.verdict (opening_of B.Bank bank kit.items admit) (ran S.Source K.Sink (source.old, sink.old) (source.new, sink.new) result) }
-    ensures failures { (admit : Admitted) → Asks words.now admit → TellsFailures (ran S.Source K.Sink (source.old, sink.old) (source.new, sink.new) result) }
     ensures room { bank_size ≤ B.size result.1 }
 {
     match admitted_by(words) {

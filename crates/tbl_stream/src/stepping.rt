@@ -1,11 +1,11 @@
 //! Plays one request of a stream.
 
-ghost use Rattle.std.specs.Prelude.{◌≡◌, ◌≤◌, ◌∷◌, [], true, false, IfOk, IfErr, OnOk, OnErr};
+ghost use Rattle.std.specs.Prelude.{◌≡◌, ◌≤◌, [], true, false, IfOk, IfErr, OnErr};
 ghost use Rattle.tbl_kinds.specs.Requests.{Fits};
 ghost use Rattle.tbl_core.specs.Answers.{IsBegun};
 ghost use Rattle.tbl_core.specs.Service.{HasRoom};
-ghost use Rattle.tbl_stream.specs.Playing.{Goes, IsEntryOf};
-ghost use Rattle.tbl_stream.specs.Standing.{IsEnding, IsRefusal, TellsBoot, TellsFull, HasMetLimit, standing_after, first_of};
+ghost use Rattle.tbl_stream.specs.Playing.{Answers, Goes, Refuses};
+ghost use Rattle.tbl_stream.specs.Standing.{HasMetLimit, first_of};
 
 use crate::standing::Standing;
 use tbl_core::{Engine, StepFault};
@@ -22,10 +22,7 @@ pub(crate) fn step<B: Bank, C: Validator>(
     requires fits { Fits entry.old.actor entry.old.request }
     requires live { engine.old.state.ended ≡ false }
     requires room { HasRoom engine.old entry.old.request }
-    ensures entry { OnOk result (IsEntryOf entry.old.actor entry.old.request entry.new) }
-    ensures goes { OnOk result (Goes B.Bank C.verdict engine.old engine.new (entry.new ∷ [])) }
-    ensures ending { IfOk result IsEnding }
-    ensures boot { IfOk result (λ stop. TellsBoot (standing_after stop) engine.new.state.ended (entry.new ∷ [])) }
+    ensures answers { IfOk result (Answers B.Bank C.verdict engine.old engine.new (entry.old.actor, entry.old.request) entry.new) }
     ensures err { OnErr result (engine.new ≡ engine.old) }
 {
     match engine.play(entry) {
@@ -59,14 +56,8 @@ pub(crate) fn answer<B: Bank, C: Validator>(
 ) -> Result<(Entry, Option<Standing>), Standing>
     requires fits { Fits actor request }
     requires live { engine.old.state.ended ≡ false }
-    ensures entry { IfOk result (λ done. IsEntryOf actor request done.0) }
-    ensures goes { IfOk result (λ done. Goes B.Bank C.verdict engine.old engine.new (done.0 ∷ [])) }
-    ensures ending { IfOk result (λ done. IsEnding done.1) }
-    ensures boot { IfOk result (λ done. TellsBoot (standing_after done.1) engine.new.state.ended (done.0 ∷ [])) }
-    ensures refusal { IfErr result IsRefusal }
-    ensures full { IfErr result (λ standing. TellsFull standing engine.new.played) }
-    ensures err { OnErr result (Goes B.Bank C.verdict engine.old engine.new []) }
-    ensures err_ended { OnErr result (engine.new.state.ended ≡ engine.old.state.ended) }
+    ensures answers { IfOk result (λ done. Answers B.Bank C.verdict engine.old engine.new (actor, request) done.0 done.1) }
+    ensures refuses { IfErr result (Refuses B.Bank C.verdict engine.old engine.new) }
 {
     let has_room = make_room(engine, &request);
     let Ok(mut entry) = engine.begin(actor, request) else {

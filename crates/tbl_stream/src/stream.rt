@@ -2,11 +2,11 @@
 
 ghost use Rattle.std.specs.Prelude.{◌≡◌, ◌<◌, ◌≤◌, ◌==◌, [], ◌++◌, length, drop, false, IfOk, IfErr};
 ghost use Rattle.tbl_kinds.specs.Heads.{IsShort};
-ghost use Rattle.tbl_stream.specs.Places.{place_of};
-ghost use Rattle.tbl_stream.specs.Playing.{PlaysOf, moment};
-ghost use Rattle.tbl_stream.specs.Standing.{Leaves, IsFront, TellsFull};
+ghost use Rattle.tbl_stream.specs.Playing.{IsLive, PlaysOf, moment, unplayed};
+ghost use Rattle.tbl_stream.specs.Standing.{Leaves, IsFront};
+ghost use Rattle.tbl_stream.specs.Writing.{taken_of};
 ghost use Rattle.tbl_stream.specs.Feeding.{answer_of, Feeds};
-ghost use Rattle.tbl_stream.specs.Finishing.{Finishes, end_at, status_of};
+ghost use Rattle.tbl_stream.specs.Finishing.{FinishesAs};
 ghost use Rattle.tbl_stream.specs.declared.standing.Standing.TheVariants.{Open, Full};
 
 use crate::finishing::finish;
@@ -59,11 +59,7 @@ impl<B: Bank, C: Validator> Stream<B, C> {
     /// out of memory, and gives the engine back.
     pub fn make(alloc: Global, engine: Engine<B, C>) -> Result<Stream<B, C>, Engine<B, C>>
         requires live { engine.state.ended ≡ false }
-        ensures engine { IfOk result (λ stream. stream.played.engine ≡ engine) }
-        ensures place { IfOk result (λ stream. stream.played.place ≡ place_of engine.played) }
-        ensures offset { IfOk result (λ stream. stream.played.offset ≡ 0) }
-        ensures rest { IfOk result (λ stream. stream.rest ≡ []) }
-        ensures is_open { IfOk result (λ stream. stream.standing ≡ Open) }
+        ensures ok { IfOk result (λ stream. stream ≡ record { played = unplayed engine; rest = []; standing = Open }) }
         ensures err { IfErr result (λ back. back ≡ engine) }
     {
         Ok(Stream {
@@ -80,9 +76,7 @@ impl<B: Bank, C: Validator> Stream<B, C> {
         // All that was fed is the spellings of the requests of some entries, and after them what the answer says. Whatever the engine
         // had played before, it has played that and these after it, and the sink took their spellings.
         ensures feeds { Feeds B.Bank C.verdict self.new.standing (moment K.Sink self.old.played sink.old) (moment K.Sink self.new.played sink.new) (self.old.rest ++ piece.now) self.new.rest }
-        ensures full { TellsFull self.new.standing self.new.played.engine.played }
         ensures kept { result ≡ Fed.More → length self.new.rest < 32836 }
-        ensures count { K.faults sink.old ≤ K.faults sink.new }
     {
         feed_fields(
             &mut self.playback,
@@ -90,14 +84,14 @@ impl<B: Bank, C: Validator> Stream<B, C> {
             &mut self.standing,
             piece,
             sink,
-        )
+        );
+        answer(self.standing)
     }
 
     /// Ends the stream: writes the end record, unless an entry before it wasn't written whole, and answers the status.
     /// The input is at its end, or a read of it failed.
     pub fn finish<K: Sink>(&mut self, read_failed: bool, sink: &mut K) -> u8
-        ensures finishes { let status = status_of self.old.standing read_failed (length self.old.rest == 0) in
-            Finishes self.old.standing status result (end_at status self.old.played) (K.taken sink.old, K.faults sink.old) (K.taken sink.new, K.faults sink.new) }
+        ensures finishes { FinishesAs self.old.standing read_failed (length self.old.rest == 0) result self.old.played (taken_of K.Sink sink.old) (taken_of K.Sink sink.new) }
         ensures same { self.new ≡ self.old }
         ensures count { K.faults sink.old ≤ K.faults sink.new }
     {
@@ -113,9 +107,7 @@ impl<B: Bank, C: Validator> Stream<B, C> {
 
     /// Ends the stream as when the engine has no room.
     pub(crate) fn stop(&mut self)
-        ensures played { self.new.played ≡ self.old.played }
-        ensures rest { self.new.rest ≡ self.old.rest }
-        ensures full { self.new.standing ≡ Full }
+        ensures { self.new ≡ record self.old { standing = Full } }
     {
         self.standing = Standing::Full;
     }
@@ -128,6 +120,7 @@ impl<B: Bank, C: Validator> Stream<B, C> {
     }
 }
 
+/// What this standing answers.
 fn answer(standing: Standing) -> Fed
     ensures { result ≡ answer_of standing }
 {
@@ -149,16 +142,12 @@ fn feed_fields<B: Bank, C: Validator, K: Sink>(
     standing: &mut Standing,
     piece: &[u8],
     sink: &mut K,
-) -> Fed
-    requires live { playback.old.engine.state.ended ≡ false }
+)
+    requires live { IsLive playback.old }
     requires begun { IsFront kept.old.items }
-    ensures answer { result ≡ answer_of standing.new }
-    ensures full { TellsFull standing.new playback.new.engine.played }
-    ensures feeds { Feeds B.Bank C.verdict standing.new (moment K.Sink playback.old sink.old) (moment K.Sink playback.new sink.new) (kept.old.items ++ piece.now) kept.new.items }
-    ensures count { K.faults sink.old ≤ K.faults sink.new }
+    ensures { Feeds B.Bank C.verdict standing.new (moment K.Sink playback.old sink.old) (moment K.Sink playback.new sink.new) (kept.old.items ++ piece.now) kept.new.items }
 {
     *standing = play_piece(playback, kept, piece, sink);
-    answer(*standing)
 }
 
 /// Completes the record whose beginning is kept, and plays what is whole after it.
@@ -168,11 +157,9 @@ fn play_piece<B: Bank, C: Validator, K: Sink>(
     piece: &[u8],
     sink: &mut K,
 ) -> Standing
-    requires live { playback.old.engine.state.ended ≡ false }
+    requires live { IsLive playback.old }
     requires begun { IsFront kept.old.items }
-    ensures full { TellsFull result playback.new.engine.played }
-    ensures feeds { Feeds B.Bank C.verdict result (moment K.Sink playback.old sink.old) (moment K.Sink playback.new sink.new) (kept.old.items ++ piece.now) kept.new.items }
-    ensures count { K.faults sink.old ≤ K.faults sink.new }
+    ensures { Feeds B.Bank C.verdict result (moment K.Sink playback.old sink.old) (moment K.Sink playback.new sink.new) (kept.old.items ++ piece.now) kept.new.items }
 {
     let mut at = 0;
     'completes: while !kept.is_empty() {
@@ -195,16 +182,14 @@ fn complete<B: Bank, C: Validator, K: Sink>(
     at: &mut usize,
     sink: &mut K,
 ) -> Standing
-    requires live { playback.old.engine.state.ended ≡ false }
+    requires live { IsLive playback.old }
     requires short { IsShort kept.old.items }
     requires some { at.old < length piece.now }
     ensures within { at.new ≤ length piece.now }
     ensures further { result ≡ Open → at.old < at.new }
     ensures leaves { Leaves result kept.new.items }
-    ensures full { TellsFull result playback.new.engine.played }
     ensures plays { PlaysOf B.Bank C.verdict result (moment K.Sink playback.old sink.old) (moment K.Sink playback.new sink.new)
         (kept.old.items ++ drop at.old piece.now) (kept.new.items ++ drop at.new piece.now) }
-    ensures count { K.faults sink.old ≤ K.faults sink.new }
 {
     let (_, behind) = piece.split_at(*at);
     let count = usize::min(bytes_lacking(kept.as_slice()), behind.len());
@@ -224,11 +209,9 @@ fn play_kept<B: Bank, C: Validator, K: Sink>(
     kept: &mut Vec<u8>,
     sink: &mut K,
 ) -> Standing
-    requires live { playback.old.engine.state.ended ≡ false }
+    requires live { IsLive playback.old }
     ensures leaves { Leaves result kept.new.items }
-    ensures full { TellsFull result playback.new.engine.played }
     ensures plays { PlaysOf B.Bank C.verdict result (moment K.Sink playback.old sink.old) (moment K.Sink playback.new sink.new) kept.old.items kept.new.items }
-    ensures count { K.faults sink.old ≤ K.faults sink.new }
 {
     let mut used = 0;
     let standing = playback.play_whole(kept.as_slice(), &mut used, sink);
@@ -244,12 +227,10 @@ fn play_rest<B: Bank, C: Validator, K: Sink>(
     from: usize,
     sink: &mut K,
 ) -> Standing
-    requires live { playback.old.engine.state.ended ≡ false }
+    requires live { IsLive playback.old }
     requires empty { kept.old.items ≡ [] }
     requires within { from ≤ length piece.now }
-    ensures full { TellsFull result playback.new.engine.played }
-    ensures feeds { Feeds B.Bank C.verdict result (moment K.Sink playback.old sink.old) (moment K.Sink playback.new sink.new) (drop from piece.now) kept.new.items }
-    ensures count { K.faults sink.old ≤ K.faults sink.new }
+    ensures { Feeds B.Bank C.verdict result (moment K.Sink playback.old sink.old) (moment K.Sink playback.new sink.new) (drop from piece.now) kept.new.items }
 {
     let mut at = from;
     match playback.play_whole(piece, &mut at, sink) {

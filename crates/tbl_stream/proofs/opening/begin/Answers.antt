@@ -1,16 +1,28 @@
-use Rattle.std.proofs.Common.{◌∙◌, ap, sym}
+use Rattle.std.proofs.Common.{refl, ap, sym, rules}
 use Rattle.tbl_stream.specs.Places.{place_of}
 use Rattle.tbl_stream.proofs.opening.begin.Goals as goal
 
-pub returns-in-Ok-clause-serves : goal.returns-in-Ok-clause-serves
-returns-in-Ok-clause-serves g c = rw c.in-Ok.ensures.engine c.in_ok-start.ensures.serves
+pub returns-in-Ok-clause-fresh : goal.returns-in-Ok-clause-fresh
+returns-in-Ok-clause-fresh g c =
+    let begins = c.in_ok-start.ensures.ok in
+    rw c.in-Ok.ensures.ok (record {
+      is_open = refl;
+      rest = refl;
+      place = ap place_of (sym begins.after.played);
+      offset = refl;
+      live = begins.live;
+      after = begins.after;
+    })
 
-pub returns-in-Ok-clause-place : goal.returns-in-Ok-clause-place
-returns-in-Ok-clause-place g c = c.in-Ok.ensures.place ∙ ap place_of (sym c.in_ok-start.ensures.after.played)
+pub returns-in-Ok-clause-serves : goal.returns-in-Ok-clause-serves
+returns-in-Ok-clause-serves g c = rw c.in-Ok.ensures.ok c.in_ok-start.ensures.ok.serves
 
 -- out of memory for the stream, a reset leaves what it could after the start
-pub returns-in-Err-clause-crash_err : goal.returns-in-Err-clause-crash_err
-returns-in-Err-clause-crash_err g c told = rw (c.end.ensures.bank, c.in-Err.ensures.err) (c.in_ok-start.ensures.crash told)
-
-pub returns-in-Err-clause-cause : goal.returns-in-Err-clause-cause
-returns-in-Err-clause-cause g c = rw (c.end.ensures.bank, c.in-Err.ensures.err) c.in_ok-start.ensures.counts
+pub returns-in-Err-clause-err : goal.returns-in-Err-clause-err
+returns-in-Err-clause-err g c =
+    let begins = c.in_ok-start.ensures.ok in
+    record {
+      crash = λ told. rw (c.end.ensures.bank, c.in-Err.ensures.err) (begins.crash told);
+      counts = rw (c.end.ensures.bank, c.in-Err.ensures.err) begins.counts;
+      room = search rules;
+    }

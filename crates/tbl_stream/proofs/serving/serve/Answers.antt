@@ -3,10 +3,11 @@ use Rattle.std.proofs.lemmas.Option.{same_Some}
 use Rattle.tbl_kinds.specs.Admitted.{Admitted}
 use Rattle.tbl_session.specs.Session.{opening_of, ran}
 use Rattle.tbl_stream.specs.Serving.{Lives}
+use Rattle.tbl_stream.proofs.StatusLemmas.{known_not_usage}
 use Rattle.tbl_stream.proofs.serving.serve.Goals as goal
 
 pub returns-in-Some-clause-usage : goal.returns-in-Some-clause-usage
-returns-in-Some-clause-usage g c two = absurd (c.serve_all.ensures.not_usage two)
+returns-in-Some-clause-usage g c two = absurd (known_not_usage c.serve_all.result.0 c.serve_all.ensures.lives.known two)
 
 pub returns-in-Some-clause-unknown : goal.returns-in-Some-clause-unknown
 returns-in-Some-clause-unknown g c none = absurd (none c.in-Some.admit ((c.admitted_by.ensures c.in-Some.admit).0 c.in-Some.is))
@@ -26,6 +27,3 @@ returns-in-None-clause-usage g c two admit asks = absurd (let found = (c.admitte
 
 pub returns-in-None-clause-lives : goal.returns-in-None-clause-lives
 returns-in-None-clause-lives g c admit asks = absurd (let found = (c.admitted_by.ensures admit).1 asks in let none = c.in-None.is in cc)
-
-pub returns-in-None-clause-failures : goal.returns-in-None-clause-failures
-returns-in-None-clause-failures g c admit asks = absurd (let found = (c.admitted_by.ensures admit).1 asks in let none = c.in-None.is in cc)

@@ -4,7 +4,6 @@ use Rattle.tbl_history.proofs.Laws.{Laws}
 use Rattle.tbl_history.proofs.Openings.{first_opening}
 use Rattle.tbl_stream.proofs.FailureLemmas.{unbegun_failures}
 use Rattle.tbl_stream.proofs.ServingLemmas.{unbegun}
-use Rattle.tbl_stream.proofs.StatusLemmas.{unbegun_not_usage}
 use Rattle.tbl_stream.proofs.serving.serve_all.Goals as goal
 
 pub returns-in-Err-clause-lives : goal.returns-in-Err-clause-lives
@@ -14,20 +13,9 @@ returns-in-Err-clause-lives g c =
     let laws : Laws b = record { tells_both = g.met.B.Bank.tells_both; leaves_now = g.met.B.Bank.leaves_now; leaves_only_now = g.met.B.Bank.leaves_only_now; counts_now = g.met.B.Bank.counts_now } in
     let r = ran g.S.Source g.K.Sink (c.args.source.now, c.args.sink.now) (c.args.source.now, c.finish_unbegun.new.sink) (c.finish_unbegun.result, c.in-Err.field-0.bank) in
     unbegun b laws g.C.Validator.verdict (opening_of b c.args.bank kit c.args.admit) (first_opening (b.now c.args.bank) kit c.args.admit)
-    r refl c.in-Err.ensures.crash_err c.in-Err.field-0.cause c.in-Err.ensures.cause c.finish_unbegun.ensures.finishes
+    r (unbegun_failures c.in-Err.field-0.cause r refl c.finish_unbegun.ensures) refl c.in-Err.ensures.err.crash c.in-Err.field-0.cause c.in-Err.ensures.err.counts c.finish_unbegun.ensures
 
 pub returns-in-Ok-clause-lives : goal.returns-in-Ok-clause-lives
 returns-in-Ok-clause-lives g c =
     let b = g.B.Bank in
-    rw (c.end-in-Ok.ensures.bank ∙ ap (λ engine. engine.state.store.bank) c.end.ensures) (c.play-status.ensures.lives (opening_of b c.args.bank c.args.kit.items c.args.admit) c.in-Ok.ensures.serves)
-
-pub returns-in-Err-clause-failures : goal.returns-in-Err-clause-failures
-returns-in-Err-clause-failures g c =
-    unbegun_failures c.in-Err.field-0.cause (ran g.S.Source g.K.Sink (c.args.source.now, c.args.sink.now) (c.args.source.now, c.finish_unbegun.new.sink) (c.finish_unbegun.result, c.in-Err.field-0.bank))
-    refl c.finish_unbegun.ensures.finishes
-
-pub returns-in-Ok-clause-failures : goal.returns-in-Ok-clause-failures
-returns-in-Ok-clause-failures g c = rw (c.end-in-Ok.ensures.bank ∙ ap (λ engine. engine.state.store.bank) c.end.ensures) c.play-status.ensures.failures
-
-pub returns-in-Err-clause-not_usage : goal.returns-in-Err-clause-not_usage
-returns-in-Err-clause-not_usage g c = unbegun_not_usage c.in-Err.field-0.cause c.finish_unbegun.result _ _ c.finish_unbegun.ensures.finishes
+    rw (c.end-in-Ok.ensures.bank ∙ ap (λ engine. engine.state.store.bank) c.end.ensures) (c.play-status.ensures (opening_of b c.args.bank c.args.kit.items c.args.admit) c.in-Ok.ensures.serves)

@@ -10,10 +10,15 @@ pub returns-in-Ok-clause-plays : goal.returns-in-Ok-clause-plays
 returns-in-Ok-clause-plays g c =
     let p = c.play_kept.ensures.plays in
     completed g.B.Bank g.C.Validator.verdict c.play_kept.result _ _ c.args.kept.now.items c.play_kept.new.kept.items c.args.piece.now c.args.at.now c.min-count.result
-    (p.0, p.1, sym (c.in-Ok.ensures.items ∙ ap (λ xs. c.args.kept.now.items ++ xs) (c.split_at-2.ensures.front ∙ ap (take c.min-count.result) c.split_at.ensures.back)) ∙ p.2)
+    (record {
+      entries = p.entries;
+      plays = p.plays;
+      parts = sym (c.in-Ok.ensures.items ∙ ap (λ xs. c.args.kept.now.items ++ xs) (c.split_at-2.ensures.front ∙ ap (take c.min-count.result) c.split_at.ensures.back)) ∙ p.parts;
+      full = p.full;
+    })
 
 -- out of memory, nothing was moved
 pub returns-in-Err-clause-plays : goal.returns-in-Err-clause-plays
 returns-in-Err-clause-plays g c =
     let same : c.extend_from_slice.new.self.items ≡ c.args.kept.now.items = search rules in
-    rw same (plays_of_nothing g.B.Bank g.C.Validator.verdict Memory (moment g.K.Sink c.args.playback.now c.args.sink.now) (c.args.kept.now.items ++ drop c.args.at.now c.args.piece.now) tt c.requires.live)
+    rw same (plays_of_nothing g.B.Bank g.C.Validator.verdict Memory (moment g.K.Sink c.args.playback.now c.args.sink.now) (c.args.kept.now.items ++ drop c.args.at.now c.args.piece.now) tt tt c.requires.live)

@@ -8,4 +8,9 @@ pub returns-clause-plays : goal.returns-clause-plays
 returns-clause-plays g c =
     let p = c.play_whole-standing.ensures.plays in
     let same = c.as_slice.ensures.value in
-    (p.0, p.1, sym same ∙ p.2 ∙ ap (λ xs. joined (pairs_of p.0) ++ xs) (ap (drop c.play_whole-standing.new.at) same ∙ sym c.drop_front.ensures))
+    record {
+      entries = p.entries;
+      plays = p.plays;
+      parts = sym same ∙ p.parts ∙ ap (λ xs. joined (pairs_of p.entries) ++ xs) (ap (drop c.play_whole-standing.new.at) same ∙ sym c.drop_front.ensures);
+      full = p.full;
+    }

@@ -15,18 +15,17 @@ completes-init g c = record {
   within = search rules;
   begun = c.requires.begun;
   live = c.requires.live;
-  plays = plays_of_nothing g.B.Bank g.C.Validator.verdict Open (moment g.K.Sink c.args.playback.now c.args.sink.now) (c.args.kept.now.items ++ c.args.piece.now) tt c.requires.live;
-  count = search rules;
+  plays = plays_of_nothing g.B.Bank g.C.Validator.verdict Open (moment g.K.Sink c.args.playback.now c.args.sink.now) (c.args.kept.now.items ++ c.args.piece.now) tt tt c.requires.live;
 }
 
 -- the piece is used up
-pub returns-then-at-piece-clause-feeds : goal.returns-then-at-piece-clause-feeds
-returns-then-at-piece-clause-feeds g c =
+pub returns-then-at-piece : goal.returns-then-at-piece
+returns-then-at-piece g c =
     feeds_kept g.B.Bank g.C.Validator.verdict _ _ _ c.completes.kept.items c.args.piece.now c.completes.at (search rules) c.completes.invariant.plays c.completes.invariant.begun
 
 -- the stream is over
-pub returns-in_default-clause-feeds : goal.returns-in_default-clause-feeds
-returns-in_default-clause-feeds g c =
+pub returns-in_default : goal.returns-in_default
+returns-in_default g c =
     feeds_over g.B.Bank g.C.Validator.verdict c.complete.result _ _ _ c.complete.new.kept.items c.complete.new.kept.items (drop c.complete.new.at c.args.piece.now) c.in_default.not-Open
     (plays_of_on g.B.Bank g.C.Validator.verdict c.complete.result _ _ _ _ _ _ c.completes.invariant.plays c.complete.ensures.plays) c.complete.ensures.leaves
 
@@ -34,15 +33,14 @@ pub completes-preserved : goal.completes-preserved
 completes-preserved g c = record {
   within = search rules;
   begun = c.in-Open.ensures.leaves;
-  live = c.in-Open.ensures.plays.1.boot;
+  live = c.in-Open.ensures.plays.plays.boot;
   plays = plays_of_on g.B.Bank g.C.Validator.verdict Open _ _ _ _ _ _ c.completes.invariant.plays c.in-Open.ensures.plays;
-  count = search rules;
 }
 
 -- no kept byte is left
-pub returns-clause-feeds : goal.returns-clause-feeds
-returns-clause-feeds g c =
+pub returns : goal.returns
+returns g c =
     let p = c.completes.invariant.plays in
     let none : c.completes.kept.items ≡ [] = nil_from_length c.completes.kept.items (omega (arith, c.completes.kept.ok, eqb-true c.completes.kept.len 0 (sym c.is_empty.ensures ∙ c.completes-test.false))) in
     feeds_on g.B.Bank g.C.Validator.verdict c.play_rest.result _ _ _ _ (drop c.completes.at c.args.piece.now) c.play_rest.new.kept.items
-    (p.0, p.1, p.2 ∙ ap (λ xs. joined (pairs_of p.0) ++ (xs ++ drop c.completes.at c.args.piece.now)) none) c.play_rest.ensures.feeds
+    (record { entries = p.entries; plays = p.plays; parts = p.parts ∙ ap (λ xs. joined (pairs_of p.entries) ++ (xs ++ drop c.completes.at c.args.piece.now)) none; full = p.full }) c.play_rest.ensures

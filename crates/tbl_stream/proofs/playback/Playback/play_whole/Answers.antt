@@ -10,8 +10,7 @@ records-init g c = record {
   within = search rules;
   further = search rules;
   live = c.requires.live;
-  plays = plays_of_nothing g.B.Bank g.C.Validator.verdict Open (moment g.K.Sink c.args.self.now c.args.sink.now) (drop c.args.at.now c.args.bytes.now) tt c.requires.live;
-  count = search rules;
+  plays = plays_of_nothing g.B.Bank g.C.Validator.verdict Open (moment g.K.Sink c.args.self.now c.args.sink.now) (drop c.args.at.now c.args.bytes.now) tt tt c.requires.live;
 }
 
 pub returns-in-Some-clause-plays : goal.returns-in-Some-clause-plays
@@ -21,7 +20,6 @@ pub records-preserved : goal.records-preserved
 records-preserved g c = record {
   within = search rules;
   further = search rules;
-  live = c.in_default.ensures.plays.1.boot;
+  live = c.in_default.ensures.plays.plays.boot;
   plays = plays_of_on g.B.Bank g.C.Validator.verdict Open _ _ _ _ _ _ c.records.invariant.plays c.in_default.ensures.plays;
-  count = search rules;
 }

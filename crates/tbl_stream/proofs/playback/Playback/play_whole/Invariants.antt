@@ -1,5 +1,5 @@
-use Rattle.std.proofs.Common.{◌≡◌, ◌-◌, ◌≤◌, length, drop, false}
-use Rattle.tbl_stream.specs.Playing.{PlaysOf, moment}
+use Rattle.std.proofs.Common.{◌-◌, ◌≤◌, length, drop}
+use Rattle.tbl_stream.specs.Playing.{IsLive, PlaysOf, moment}
 use Rattle.tbl_stream.specs.declared.standing.Standing.TheVariants.{Open}
 use Rattle.tbl_stream.proofs.playback.Playback.play_whole.Given as goal
 
@@ -7,9 +7,8 @@ abbrev pub invariant-records : goal.invariant-records
 invariant-records g l = record {
   within : l.at ≤ length l.fn.bytes;
   further : l.fn.at ≤ l.at;
-  live : l.self.engine.state.ended ≡ false;
+  live : IsLive l.self;
   plays : PlaysOf g.B.Bank g.C.Validator.verdict Open (moment g.K.Sink l.fn.self l.fn.sink) (moment g.K.Sink l.self l.sink) (drop l.fn.at l.fn.bytes) (drop l.at l.fn.bytes);
-  count : g.K.Sink.faults l.fn.sink ≤ g.K.Sink.faults l.sink;
 }
 
 abbrev pub decreases-records : goal.decreases-records
