@@ -1,5 +1,5 @@
-//! A session over two banks as one, where one fails in a write, in its reads, or at the start: both are opened again afterwards, and what
-//! comes back then in each critical table is written.
+//! A session over two banks as one while something goes wrong with one of them: both are opened again afterwards, and each critical table
+//! is asked for what comes back.
 
 ghost use Rattle.std.specs.Prelude.{◌≡◌, ◌+◌, ◌<◌, ◌≤◌, ◌^◌, length, IfOk};
 ghost use Rattle.tbl_kinds.specs.Places.{bank_size};
@@ -11,6 +11,7 @@ use crate::play::{Fault, Left, MOST_ENTRIES, Room, Scenario, left_in, shipped, s
 use crate::recovery::come_back;
 use crate::tables::{Back, Table};
 use crate::tries::Runs;
+use crate::trouble::Trouble;
 use bank_mirror::{Alone, Mirror, STALE};
 use cds_layout::BANK_SIZE;
 use shipped_kit::Shipped;
@@ -23,9 +24,6 @@ use validation::Kit;
 /// How many writes the copy of an opening makes at most.
 const COPIES: u32 = 128;
 
-/// How many reads of the one bank and writes of the other the copy of an opening makes: a piece has 4,096 bytes.
-const PIECES: u32 = BANK_SIZE / 4_096;
-
 /// How many reads of a bank fail.
 const BAD_READS: usize = 4_096;
 
@@ -37,83 +35,6 @@ type Both = Mirror<MemBank, MemBank>;
 struct Apart {
     first: MemBank,
     second: MemBank,
-}
-
-/// What goes wrong with two banks as one.
-#[derive(Clone, Copy)]
-pub(crate) enum Trouble {
-    /// The first dies in this write of the session, after so many of its bytes.
-    FirstDies { number: u32, after: u32 },
-    /// The second does.
-    SecondDies { number: u32, after: u32 },
-    /// The first answers no read once both are opened.
-    FirstUnread,
-    /// The first doesn't answer at the start, and the second goes on alone.
-    NoFirst,
-    /// The second doesn't, and the first goes on alone.
-    NoSecond,
-}
-
-impl Trouble {
-    /// Which bank goes on alone if both can't be opened.
-    fn alone(self) -> Alone {
-        match self {
-            Trouble::NoSecond => Alone::First,
-            _ => Alone::Second,
-        }
-    }
-
-    /// After how many bytes of a write a bank dies.
-    fn after(self) -> u32 {
-        match self {
-            Trouble::FirstDies { after, .. } | Trouble::SecondDies { after, .. } => after,
-            _ => 0,
-        }
-    }
-
-    /// The write of the first that fails.
-    fn of_first(self) -> Option<Break> {
-        match self {
-            Trouble::FirstDies { number, after } => Some(dies_in(number, after)),
-            _ => None,
-        }
-    }
-
-    /// The write of the second that fails: the copy of the opening comes before those of the session.
-    fn of_second(self) -> Option<Break> {
-        match self {
-            Trouble::SecondDies { number, after } => {
-                Some(dies_in(number.saturating_add(PIECES), after))
-            }
-            _ => None,
-        }
-    }
-
-    /// From which read on the first answers none.
-    fn first_unread(self) -> Option<u32> {
-        match self {
-            Trouble::NoFirst => Some(1),
-            Trouble::FirstUnread => Some(PIECES + 1),
-            _ => None,
-        }
-    }
-
-    /// From which read on the second answers none.
-    fn second_unread(self) -> Option<u32> {
-        match self {
-            Trouble::NoSecond => Some(1),
-            _ => None,
-        }
-    }
-}
-
-/// A write that fails after so many of its bytes.
-fn dies_in(number: u32, after: u32) -> Break {
-    Break {
-        write: number,
-        after,
-        stop: false,
-    }
 }
 
 /// The numbers of the reads that fail, from this one on.
