@@ -1,6 +1,6 @@
 -- What is read from a head and a body is spelled by them.
-use Rattle.std.proofs.Common.{◌≡◌, ℕ, zero, suc, ◌+◌, ◌<◌, ◌≤◌, true, false, ◌&&◌, ◌||◌, List, [], ◌∷◌, ◌++◌, length, get_or, take, drop, Result, Ok, Err, refl, sym, ap, ◌∙◌, arith, inl, inr}
-use Rattle.std.specs.Prelude.{◌==◌, nat_le, IsTrue, IfOk}
+use Rattle.std.proofs.Common.{◌≡◌, ℕ, zero, suc, ◌+◌, ◌<◌, ◌≤◌, true, false, ◌&&◌, ◌||◌, List, [], ◌∷◌, ◌++◌, length, get_or, take, drop, refl, sym, ap, ◌∙◌, arith, inl, inr}
+use Rattle.std.specs.Prelude.{◌==◌, nat_le}
 use Rattle.std.specs.List.{AllByRecursion, list_any}
 use Rattle.std.proofs.lemmas.Bool.Decides.{nat_tests}
 use Rattle.std.proofs.lemmas.List.{length-take}
@@ -15,10 +15,8 @@ use Rattle.tbl_kinds.specs.declared.request.Actor.{Actor}
 use Rattle.tbl_kinds.specs.declared.request.Actor.TheVariants.{App}
 use Rattle.tbl_kinds.specs.declared.request.Request.{Request}
 use Rattle.tbl_kinds.specs.declared.request.Request.TheVariants as ask
-use Rattle.session_records.specs.Reading.{actor_at, handle_kinds, is_handle_kind, IsSpelledBy, IsReadOr, IfItem}
+use Rattle.session_records.specs.Reading.{actor_at, handle_kinds, HasBody, IsHeadOf, IsSpelledBy}
 use Rattle.session_records.specs.declared.head.Head.{Head}
-use Rattle.session_records.specs.declared.reading.Next.{Next}
-use Rattle.session_records.specs.declared.reading.Next.TheVariants.{Item, Short, Bad, End}
 
 pub number_of_actor : (number : ℕ) → actor_number (actor_at number) ≡ number
 number_of_actor number = grind arith
@@ -55,9 +53,9 @@ each_two : AllByRecursion HasTwoBytes handle_kinds
 unfolding is_good_head HasTwoBytes
 each_two = (two_alone, (two_alone, (two_alone, (two_alone, (two_alone, (two_alone, (two_alone, (two_alone, (two_alone, (two_alone, tt))))))))))
 
-pub handle_len : (kind number len : ℕ) → IsTrue (is_handle_kind kind) → is_good_head kind number len ≡ true → len ≡ 2
+pub handle_len : (head : Head) (body : List ℕ) → HasBody handle_kinds head body → length body ≡ 2
 unfolding HasTwoBytes
-handle_len kind number len e good = of_each HasTwoBytes kind handle_kinds each_two e number len good
+handle_len head body has = of_each HasTwoBytes head.kind handle_kinds each_two has.kind head.actor (length body) has.good
 
 -- ---- records
 
@@ -142,32 +140,20 @@ tells bytes body actor request kind number len fits whole k n l b actor-is s = r
 
 -- ---- what a head and a body are read as
 
-module _ {E : Type 0} (head : Head) (body : List ℕ) (request : Request) where
-  -- a record that is read is one
-  pub item_is_record : (read : Result Next E) → is_good_head head.kind head.actor (length body) ≡ true → IsReadOr head.kind head body request read → IfOk read (λ next. IfItem request next (λ pair used. IsRecord pair))
-  item_is_record (Ok (Item actor used)) good is = is_record head.kind head.actor body actor request good is.0 is.2
-  item_is_record (Ok Short) good is = tt
-  item_is_record (Ok Bad) good is = tt
-  item_is_record (Ok End) good is = tt
-  item_is_record (Err e) good is = tt
+pub record IsItem (bytes : List ℕ) (pair : Pair) (used : ℕ) : Type 0 where
+  pub is_record : IsRecord pair
+  pub spelled : take used bytes ≡ spelling pair
+  pub count : used ≡ length (spelling pair)
 
-  module _ (bytes : List ℕ) (fits : (i : ℕ) → get_or bytes i 0 < 256) (whole : 4 + head.len ≤ length bytes) (kind : head.kind ≡ byte_at 0 bytes) (number : head.actor ≡ byte_at 1 bytes)
-      (len : head.len ≡ stated_len bytes) (stands : body ≡ take head.len (drop 4 bytes)) (sized : length body ≡ head.len) where
-    -- it is spelled at the front of the input
-    pub item_spelled : (read : Result Next E) → IsReadOr head.kind head body request read → IfOk read (λ next. IfItem request next (λ pair used. take used bytes ≡ spelling pair))
-    item_spelled (Ok (Item actor used)) is =
-        let t = tells bytes body actor request head.kind head.actor head.len fits whole kind number len stands is.0 is.2 in
-        let count : used ≡ 4 + stated_len bytes = omega (arith, is.1, sized, len) in
-        rw count (spelled bytes _ t)
-    item_spelled (Ok Short) is = tt
-    item_spelled (Ok Bad) is = tt
-    item_spelled (Ok End) is = tt
-    item_spelled (Err e) is = tt
-
-    -- and has as many bytes as are told
-    pub item_used : (read : Result Next E) → IsReadOr head.kind head body request read → IfOk read (λ next. IfItem request next (λ pair used. used ≡ length (spelling pair)))
-    item_used (Ok (Item actor used)) is = omega (arith, is.1, sized, whole, length-take used bytes, ap length (item_spelled (Ok (Item actor used)) is))
-    item_used (Ok Short) is = tt
-    item_used (Ok Bad) is = tt
-    item_used (Ok End) is = tt
-    item_used (Err e) is = tt
+-- a record that is read is one, is spelled at the front of the input, and has as many bytes as are told
+pub item : (head : Head) (bytes body : List ℕ) (actor : Actor) (request : Request) → ((i : ℕ) → get_or bytes i 0 < 256) → 4 + head.len ≤ length bytes → IsHeadOf bytes head
+    → body ≡ take head.len (drop 4 bytes) → length body ≡ head.len → is_good_head head.kind head.actor head.len ≡ true → actor ≡ actor_at head.actor → IsSpelledBy head.kind body request
+    → IsItem bytes (record { actor = actor; request = request }) (4 + head.len)
+item head bytes body actor request fits whole h stands sized good actor-is s =
+    let t = tells bytes body actor request head.kind head.actor head.len fits whole h.kind h.actor h.len stands actor-is s in
+    let at : take (4 + head.len) bytes ≡ spelling (record { actor = actor; request = request }) = rw h.len (spelled bytes _ t) in
+    record {
+      is_record = is_record head.kind head.actor body actor request (rw sized good) actor-is s;
+      spelled = at;
+      count = omega (arith, whole, length-take (4 + head.len) bytes, ap length at);
+    }

@@ -1,7 +1,7 @@
 -- What is written after a head.
-use Rattle.std.specs.Prelude.{◌≡◌, ◌++◌}
+use Rattle.std.specs.Prelude.{◌≡◌, ◌++◌, Result, OnOk, OnErr}
 use Rattle.tbl_kinds.specs.Buffers.{Buffer}
-use Rattle.tbl_kinds.specs.Records.{IsSized, body_of}
+use Rattle.tbl_kinds.specs.Records.{Pair, IsRecord, IsSized, body_of, spelling}
 use Rattle.tbl_kinds.specs.declared.request.Request.{Request}
 use Rattle.tbl_kinds.specs.declared.request.Request.TheVariants as ask
 
@@ -30,3 +30,9 @@ pub record Appends (request : Request) (old new : Buffer) : Type 0 where
   pub bytes : new.list ≡ old.list ++ body_of request
   -- its names and numbers fit their fields
   pub sized : IsSized request
+
+-- a record's one spelling was put after the bytes; or memory ran out, and nothing is changed
+pub record WritesRecord {V : Type 0} {E : Type 0} (pair : Pair) (old new : Buffer) (result : Result V E) : Type 0 where
+  pub ok : OnOk result (new.list ≡ old.list ++ spelling pair)
+  pub is_record : OnOk result (IsRecord pair)
+  pub err : OnErr result (new ≡ old)

@@ -1,42 +1,26 @@
 //! Records of what applications call.
 
-ghost use Rattle.std.specs.Prelude.{◌≡◌, ◌≤◌, length, IsTrue};
+ghost use Rattle.std.specs.Prelude.{◌≡◌, length};
 ghost use Rattle.tbl_kinds.specs.Numbers.{two};
-ghost use Rattle.tbl_kinds.specs.Heads.{is_good_head};
-ghost use Rattle.session_records.specs.Reading.{IsReadAs, IsReadOr, is_handle_kind};
+ghost use Rattle.session_records.specs.Reading.{IsReadAs, HasBody, named_kinds, handle_kinds};
 
 use crate::fields::{read_four, read_two, read_validator};
-use crate::head::{HEAD_LEN, Head, actor_of, record};
-use crate::reading::Next;
-use std::alloc::Global;
-use tbl_kinds::{Bytes, FileName, Memory, Name, Request};
+use crate::head::{Head, made};
+use tbl_kinds::{Name, Request};
 
 #[tactic(auto, unfolding(tbl_kinds::specs::Heads::is_right_body))]
-pub(crate) fn start(head: Head, body: &[u8], request: &mut Request) -> Next
-    requires { length body.now ≡ 20 }
-    ensures { IsReadAs 0x10 head body.now request.new result }
-{
-    let Some(name) = Name::<20>::exact(body) else {
-        return Next::Bad;
-    };
-    record!(head, body, request, Request::Start { name })
-}
-
-#[tactic(auto, unfolding(tbl_kinds::specs::Heads::is_right_body))]
-pub(crate) fn register(head: Head, body: &[u8], request: &mut Request) -> Next
+fn register(body: &[u8], request: &mut Request) -> bool
     requires { length body.now ≡ 23 }
-    ensures { IsReadAs 0x11 head body.now request.new result }
+    ensures { IsReadAs 0x11 body.now request.new result }
 {
     let (field, rest) = body.split_at(16);
     let Some(name) = Name::<16>::exact(field) else {
-        return Next::Bad;
+        return false;
     };
     let (size, rest) = read_four(rest);
     let (flags, rest) = read_two(rest);
     let validator = read_validator(rest);
-    record!(
-        head,
-        body,
+    made!(
         request,
         Request::Register {
             name,
@@ -47,162 +31,44 @@ pub(crate) fn register(head: Head, body: &[u8], request: &mut Request) -> Next
     )
 }
 
-#[tactic(auto, unfolding(tbl_kinds::specs::Heads::is_right_body))]
-pub(crate) fn share(head: Head, body: &[u8], request: &mut Request) -> Next
-    requires { length body.now ≡ 40 }
-    ensures { IsReadAs 0x12 head body.now request.new result }
+/// The request of a kind whose body begins with a name. It isn't inlined, like those of the other kinds: its arms would clear their memory
+/// for each record of another kind.
+#[inline(never)]
+#[tactic(auto, unfolding(tbl_kinds::specs::Heads::is_right_body, tbl_kinds::specs::Heads::is_good_head))]
+pub(crate) fn named_request(head: Head, body: &[u8], request: &mut Request) -> bool
+    requires { HasBody named_kinds head body.now }
+    ensures { IsReadAs head.kind body.now request.new result }
 {
-    let Some(name) = Name::<40>::exact(body) else {
-        return Next::Bad;
-    };
-    record!(head, body, request, Request::Share { name })
-}
-
-#[tactic(auto, unfolding(tbl_kinds::specs::Heads::is_right_body))]
-pub(crate) fn load_image(
-    alloc: Global,
-    head: Head,
-    body: &[u8],
-    request: &mut Request,
-) -> Result<Next, Memory>
-    requires { 2 ≤ length body.now }
-    ensures { IsReadOr 0x14 head body.now request.new result }
-{
-    let (handle, rest) = read_two(body);
-    let image = Bytes::of(alloc, rest)?;
-    Ok(record!(head, body, request, Request::LoadImage { handle, image }))
-}
-
-#[tactic(auto, unfolding(tbl_kinds::specs::Heads::is_right_body))]
-pub(crate) fn load_file(
-    alloc: Global,
-    head: Head,
-    body: &[u8],
-    request: &mut Request,
-) -> Result<Next, Memory>
-    requires { length body.now ≡ 66 }
-    ensures { IsReadOr 0x15 head body.now request.new result }
-{
-    let (handle, field) = read_two(body);
-    let Some(name) = Name::<64>::exact(field) else {
-        return Ok(Next::Bad);
-    };
-    let name = FileName::of(alloc, name)?;
-    Ok(record!(head, body, request, Request::LoadFile { handle, name }))
-}
-
-#[tactic(auto, unfolding(tbl_kinds::specs::Heads::is_right_body))]
-pub(crate) fn edit(
-    alloc: Global,
-    head: Head,
-    body: &[u8],
-    request: &mut Request,
-) -> Result<Next, Memory>
-    requires { 6 ≤ length body.now }
-    ensures { IsReadOr 0x1A head body.now request.new result }
-{
-    let (handle, rest) = read_two(body);
-    let (offset, rest) = read_four(rest);
-    let bytes = Bytes::of(alloc, rest)?;
-    Ok(record!(
-        head,
-        body,
-        request,
-        Request::Edit {
-            handle,
-            offset,
-            bytes
+    match head.kind {
+        0x10 => {
+            let Some(name) = Name::<20>::exact(body) else {
+                return false;
+            };
+            made!(request, Request::Start { name })
         }
-    ))
-}
-
-#[tactic(auto, unfolding(tbl_kinds::specs::Heads::is_right_body))]
-pub(crate) fn read(head: Head, body: &[u8], request: &mut Request) -> Next
-    requires { length body.now ≡ 10 }
-    ensures { IsReadAs 0x1C head body.now request.new result }
-{
-    let (handle, rest) = read_two(body);
-    let (offset, rest) = read_four(rest);
-    let (len, _) = read_four(rest);
-    record!(
-        head,
-        body,
-        request,
-        Request::Read {
-            handle,
-            offset,
-            len
+        0x11 => register(body, request),
+        0x12 => {
+            let Some(name) = Name::<40>::exact(body) else {
+                return false;
+            };
+            made!(request, Request::Share { name })
         }
-    )
-}
-
-#[tactic(auto, unfolding(tbl_kinds::specs::Heads::is_right_body))]
-pub(crate) fn get_info(head: Head, body: &[u8], request: &mut Request) -> Next
-    requires { length body.now ≡ 40 }
-    ensures { IsReadAs 0x1F head body.now request.new result }
-{
-    let Some(name) = Name::<40>::exact(body) else {
-        return Next::Bad;
-    };
-    record!(head, body, request, Request::GetInfo { name })
-}
-
-#[tactic(auto, unfolding(tbl_kinds::specs::Heads::is_right_body))]
-pub(crate) fn notify(head: Head, body: &[u8], request: &mut Request) -> Next
-    requires { length body.now ≡ 10 }
-    ensures { IsReadAs 0x20 head body.now request.new result }
-{
-    let (handle, rest) = read_two(body);
-    let (msg, rest) = read_two(rest);
-    let (code, rest) = read_two(rest);
-    let (parameter, _) = read_four(rest);
-    record!(
-        head,
-        body,
-        request,
-        Request::Notify {
-            handle,
-            msg,
-            code,
-            parameter
+        0x1F => {
+            let Some(name) = Name::<40>::exact(body) else {
+                return false;
+            };
+            made!(request, Request::GetInfo { name })
         }
-    )
-}
-
-#[tactic(auto, unfolding(tbl_kinds::specs::Heads::is_right_body))]
-pub(crate) fn exit(head: Head, body: &[u8], request: &mut Request) -> Next
-    requires { length body.now ≡ 0 }
-    ensures { IsReadAs 0x21 head body.now request.new result }
-{
-    record!(head, body, request, Request::Exit)
-}
-
-#[tactic(auto, unfolding(tbl_kinds::specs::Heads::is_right_body))]
-pub(crate) fn cds_register(head: Head, body: &[u8], request: &mut Request) -> Next
-    requires { length body.now ≡ 20 }
-    ensures { IsReadAs 0x30 head body.now request.new result }
-{
-    let (field, rest) = body.split_at(16);
-    let Some(name) = Name::<16>::exact(field) else {
-        return Next::Bad;
-    };
-    let (size, _) = read_four(rest);
-    record!(head, body, request, Request::CdsRegister { name, size })
-}
-
-#[tactic(auto, unfolding(tbl_kinds::specs::Heads::is_right_body))]
-pub(crate) fn cds_copy(
-    alloc: Global,
-    head: Head,
-    body: &[u8],
-    request: &mut Request,
-) -> Result<Next, Memory>
-    requires { 2 ≤ length body.now }
-    ensures { IsReadOr 0x31 head body.now request.new result }
-{
-    let (slot, rest) = read_two(body);
-    let image = Bytes::of(alloc, rest)?;
-    Ok(record!(head, body, request, Request::CdsCopy { slot, image }))
+        0x30 => {
+            let (field, rest) = body.split_at(16);
+            let Some(name) = Name::<16>::exact(field) else {
+                return false;
+            };
+            let (size, _) = read_four(rest);
+            made!(request, Request::CdsRegister { name, size })
+        }
+        _ => unreachable!(),
+    }
 }
 
 /// The handle or the slot that a body of two bytes is.
@@ -214,13 +80,12 @@ fn handle_in(body: &[u8]) -> u16
     handle
 }
 
-/// The record of a kind whose body is a handle alone, or the slot of a block.
+/// The request of a kind whose body is a handle alone, or the slot of a block.
 #[inline(never)]
 #[tactic(auto, using(crate::proofs::Spelled::handle_len), unfolding(tbl_kinds::specs::Heads::is_right_body))]
-pub(crate) fn handle_record(head: Head, body: &[u8], request: &mut Request) -> Next
-    requires kind { IsTrue (is_handle_kind head.kind) }
-    requires good { IsTrue (is_good_head head.kind head.actor (length body.now)) }
-    ensures { IsReadAs head.kind head body.now request.new result }
+pub(crate) fn handle_request(head: Head, body: &[u8], request: &mut Request) -> bool
+    requires { HasBody handle_kinds head body.now }
+    ensures { IsReadAs head.kind body.now request.new result }
 {
     let handle = handle_in(body);
     *request = match head.kind {
@@ -236,8 +101,5 @@ pub(crate) fn handle_record(head: Head, body: &[u8], request: &mut Request) -> N
         0x33 => Request::CdsDelete { slot: handle },
         _ => unreachable!(),
     };
-    Next::Item {
-        actor: actor_of(head.actor),
-        used: HEAD_LEN + body.len(),
-    }
+    true
 }

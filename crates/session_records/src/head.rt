@@ -1,7 +1,6 @@
 ghost use Rattle.std.specs.Prelude.{◌≡◌, ◌≤◌, length};
-ghost use Rattle.tbl_kinds.specs.Numbers.{byte_at};
 ghost use Rattle.tbl_kinds.specs.Heads as heads;
-ghost use Rattle.session_records.specs.Reading.{actor_at};
+ghost use Rattle.session_records.specs.Reading.{IsHeadOf, actor_at};
 
 use tbl_kinds::{Actor, u16_at};
 
@@ -24,9 +23,7 @@ impl Head {
     /// The head at the front of the bytes.
     pub fn of(bytes: &[u8]) -> Head
         requires { 4 ≤ length bytes.now }
-        ensures kind { result.kind ≡ byte_at 0 bytes.now }
-        ensures actor { result.actor ≡ byte_at 1 bytes.now }
-        ensures len { result.len ≡ heads.stated_len bytes.now }
+        ensures { IsHeadOf bytes.now result }
     {
         Head {
             kind: bytes[0],
@@ -71,15 +68,12 @@ pub fn actor_of(number: u8) -> Actor
     }
 }
 
-/// A record of the head's sender, with a request that is made in its place: one that a function gives is copied each time.
-macro_rules! record {
-    ($head:expr, $body:expr, $place:expr, $request:expr) => {{
+/// A request is made in its place: one that a function gives is copied each time.
+macro_rules! made {
+    ($place:expr, $request:expr) => {{
         *$place = $request;
-        Next::Item {
-            actor: actor_of($head.actor),
-            used: HEAD_LEN + $body.len(),
-        }
+        true
     }};
 }
 
-pub(crate) use record;
+pub(crate) use made;

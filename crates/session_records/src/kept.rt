@@ -12,17 +12,8 @@ pub fn drop_front(kept: &mut Vec<u8>, count: usize)
         return;
     }
     if count == kept.len() {
-        kept.clear();
-    } else {
-        move_to_front(kept, count);
+        return kept.clear();
     }
-}
-
-/// Moves what is after so many bytes to the front, and cuts the end off.
-fn move_to_front(kept: &mut Vec<u8>, count: usize)
-    requires { count ≤ length kept.old.items }
-    ensures { kept.new.items ≡ drop count kept.old.items }
-{
     let left = kept.len() - count;
     kept.copy_within(count.., 0);
     kept.truncate(left);

@@ -1,6 +1,5 @@
-ghost use Rattle.std.specs.Prelude.{◌≡◌, ◌+◌, ◌<◌, ◌≤◌, length};
-ghost use Rattle.tbl_kinds.specs.Heads as heads;
 ghost use Rattle.tbl_kinds.specs.Heads.{IsShort};
+ghost use Rattle.session_records.specs.Reading.{IsLacking};
 
 use crate::head::{HEAD_LEN, Head};
 
@@ -8,10 +7,8 @@ use crate::head::{HEAD_LEN, Head};
 /// the end of its body. With fewer the bytes stay short.
 #[tactic(auto, unfolding(tbl_kinds::specs::Heads::is_short))]
 pub fn bytes_lacking(bytes: &[u8]) -> usize
-    requires short { IsShort bytes.now }
-    ensures some { 0 < result }
-    ensures head { length bytes.now < 4 → length bytes.now + result ≡ 4 }
-    ensures body { 4 ≤ length bytes.now → length bytes.now + result ≡ 4 + heads.stated_len bytes.now }
+    requires { IsShort bytes.now }
+    ensures { IsLacking bytes.now result }
 {
     if bytes.len() < HEAD_LEN {
         return HEAD_LEN - bytes.len();

@@ -3,11 +3,11 @@
 
 mod calls;
 mod fields;
-mod ground;
 mod head;
 mod kept;
 mod lacking;
 mod laws;
+mod plain;
 mod reading;
 mod writing;
 

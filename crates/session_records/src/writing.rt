@@ -1,14 +1,13 @@
-ghost use Rattle.std.specs.Prelude.{◌≡◌, ◌+◌, ◌≤◌, ◌++◌, length, OnOk, OnErr};
-ghost use Rattle.tbl_kinds.specs.Names.{name_field};
+ghost use Rattle.std.specs.Prelude.{◌≡◌, ◌+◌, ◌≤◌, length};
 ghost use Rattle.tbl_kinds.specs.Requests.{Fits};
 ghost use Rattle.tbl_kinds.specs.Records as records;
-ghost use Rattle.tbl_kinds.specs.Records.{IsRecord, body_of, body_limit, spelling};
+ghost use Rattle.tbl_kinds.specs.Records.{body_of, body_limit};
 ghost use Rattle.tbl_kinds.specs.declared.request.Request.TheVariants as ask;
-ghost use Rattle.session_records.specs.Writing.{Appends, BeginsWithHandle};
+ghost use Rattle.session_records.specs.Writing.{Appends, BeginsWithHandle, WritesRecord};
 
-use crate::fields::{append_four, append_two, append_validator};
+use crate::fields::NO_VALIDATOR;
 use crate::head::HEAD_LEN;
-use tbl_kinds::{Actor, Bytes, Memory, Name16, Name64, Request, ResetKind, Uplink};
+use tbl_kinds::{Actor, Bytes, Memory, Request, ResetKind};
 
 fn kind_of(request: &Request) -> u8
     ensures { result ≡ records.kind_of request.now }
@@ -77,92 +76,31 @@ pub fn body_len(request: &Request) -> usize
     }
 }
 
-fn append_file(out: &mut Bytes, file: &Uplink)
-    requires { length (body_of (ask.File file.now)) ≤ out.old.spare }
-    ensures { Appends (ask.File file.now) out.old out.new }
-{
-    out.append(file.spelling());
-}
-
-fn append_time(out: &mut Bytes, seconds: u32, sub: u16)
-    requires { 6 ≤ out.old.spare }
-    ensures { Appends (ask.Time seconds sub) out.old out.new }
-{
-    append_four(out, seconds);
-    append_two(out, sub);
-}
-
-fn append_reset(out: &mut Bytes, kind: ResetKind)
-    requires { 1 ≤ out.old.spare }
-    ensures { Appends (ask.Reset kind) out.old out.new }
-{
-    let number = match kind {
-        ResetKind::Processor => 1,
-        ResetKind::PowerOn => 2,
-    };
-    out.append(&[number]);
-}
-
-fn append_register(out: &mut Bytes, name: &Name16, size: u32, flags: u16, validator: Option<u8>)
-    requires { length (name_field 16 name.now) + 7 ≤ out.old.spare }
-    ensures { Appends (ask.Register name.now size flags validator) out.old out.new }
-{
-    name.append_field(out);
-    append_four(out, size);
-    append_two(out, flags);
-    append_validator(out, validator);
-}
-
 fn append_image(out: &mut Bytes, handle: u16, image: &Bytes)
     requires { 2 + length image.now.list ≤ out.old.spare }
     ensures { Appends (ask.LoadImage handle image.now) out.old out.new }
 {
-    append_two(out, handle);
+    out.append(&handle.to_be_bytes());
     out.append(image.bytes());
-}
-
-fn append_load_file(out: &mut Bytes, handle: u16, name: &Name64)
-    requires { length (body_of (ask.LoadFile handle name.now)) ≤ out.old.spare }
-    ensures { Appends (ask.LoadFile handle name.now) out.old out.new }
-{
-    append_two(out, handle);
-    name.append_field(out);
-}
-
-fn append_edit(out: &mut Bytes, handle: u16, offset: u32, bytes: &Bytes)
-    requires { 6 + length bytes.now.list ≤ out.old.spare }
-    ensures { Appends (ask.Edit handle offset bytes.now) out.old out.new }
-{
-    append_two(out, handle);
-    append_four(out, offset);
-    out.append(bytes.bytes());
 }
 
 fn append_read(out: &mut Bytes, handle: u16, offset: u32, len: u32)
     requires { 10 ≤ out.old.spare }
     ensures { Appends (ask.Read handle offset len) out.old out.new }
 {
-    append_two(out, handle);
-    append_four(out, offset);
-    append_four(out, len);
+    out.append(&handle.to_be_bytes());
+    out.append(&offset.to_be_bytes());
+    out.append(&len.to_be_bytes());
 }
 
 fn append_notify(out: &mut Bytes, handle: u16, msg: u16, code: u16, parameter: u32)
     requires { 10 ≤ out.old.spare }
     ensures { Appends (ask.Notify handle msg code parameter) out.old out.new }
 {
-    append_two(out, handle);
-    append_two(out, msg);
-    append_two(out, code);
-    append_four(out, parameter);
-}
-
-fn append_block(out: &mut Bytes, name: &Name16, size: u32)
-    requires { length (name_field 16 name.now) + 4 ≤ out.old.spare }
-    ensures { Appends (ask.CdsRegister name.now size) out.old out.new }
-{
-    name.append_field(out);
-    append_four(out, size);
+    out.append(&handle.to_be_bytes());
+    out.append(&msg.to_be_bytes());
+    out.append(&code.to_be_bytes());
+    out.append(&parameter.to_be_bytes());
 }
 
 /// The body of a request that begins with a handle, or with the slot of a block.
@@ -174,12 +112,19 @@ fn append_handle_body(out: &mut Bytes, request: &Request)
     match request {
         Request::LoadImage { handle, image } => append_image(out, *handle, image),
         Request::CdsCopy { slot, image } => append_image(out, *slot, image),
-        Request::LoadFile { handle, name } => append_load_file(out, *handle, name.name()),
+        Request::LoadFile { handle, name } => {
+            out.append(&handle.to_be_bytes());
+            name.name().append_field(out);
+        }
         Request::Edit {
             handle,
             offset,
             bytes,
-        } => append_edit(out, *handle, *offset, bytes),
+        } => {
+            out.append(&handle.to_be_bytes());
+            out.append(&offset.to_be_bytes());
+            out.append(bytes.bytes());
+        }
         Request::Read {
             handle,
             offset,
@@ -198,31 +143,49 @@ fn append_handle_body(out: &mut Bytes, request: &Request)
         | Request::DumpToBuffer { handle }
         | Request::Get { handle }
         | Request::Release { handle }
-        | Request::GetStatus { handle } => append_two(out, *handle),
-        Request::CdsRestore { slot } | Request::CdsDelete { slot } => append_two(out, *slot),
+        | Request::GetStatus { handle } => out.append(&handle.to_be_bytes()),
+        Request::CdsRestore { slot } | Request::CdsDelete { slot } => {
+            out.append(&slot.to_be_bytes());
+        }
         _ => unreachable!(),
     }
 }
 
 fn append_body(out: &mut Bytes, request: &Request)
-    requires room { length (body_of request.now) ≤ out.old.spare }
+    requires { length (body_of request.now) ≤ out.old.spare }
     ensures { Appends request.now out.old out.new }
 {
     match request {
         Request::Command { bytes } => out.append(bytes.bytes()),
-        Request::File { file } => append_file(out, file),
-        Request::Time { seconds, sub } => append_time(out, *seconds, *sub),
-        Request::Reset { kind } => append_reset(out, *kind),
+        Request::File { file } => out.append(file.spelling()),
+        Request::Time { seconds, sub } => {
+            out.append(&seconds.to_be_bytes());
+            out.append(&sub.to_be_bytes());
+        }
+        Request::Reset {
+            kind: ResetKind::Processor,
+        } => out.append(&[1]),
+        Request::Reset {
+            kind: ResetKind::PowerOn,
+        } => out.append(&[2]),
         Request::Start { name } => name.append_field(out),
         Request::Register {
             name,
             size,
             flags,
             validator,
-        } => append_register(out, name, *size, *flags, *validator),
+        } => {
+            name.append_field(out);
+            out.append(&size.to_be_bytes());
+            out.append(&flags.to_be_bytes());
+            out.append(&[validator.unwrap_or(NO_VALIDATOR)]);
+        }
         Request::Share { name } | Request::GetInfo { name } => name.append_field(out),
         Request::Exit => {}
-        Request::CdsRegister { name, size } => append_block(out, name, *size),
+        Request::CdsRegister { name, size } => {
+            name.append_field(out);
+            out.append(&size.to_be_bytes());
+        }
         _ => append_handle_body(out, request),
     }
 }
@@ -232,9 +195,7 @@ fn append_body(out: &mut Bytes, request: &Request)
 pub fn write_record(out: &mut Bytes, actor: Actor, request: &Request) -> Result<(), Memory>
     requires fits { Fits actor request.now }
     requires within { length (body_of request.now) ≤ body_limit }
-    ensures ok { OnOk result (out.new.list ≡ out.old.list ++ spelling (record { actor = actor; request = request.now })) }
-    ensures is_record { OnOk result (IsRecord (record { actor = actor; request = request.now })) }
-    ensures err { OnErr result (out.new ≡ out.old) }
+    ensures { WritesRecord (record { actor = actor; request = request.now }) out.old out.new result }
 {
     let len = body_len(request);
     let [high, low] = (len as u16).to_be_bytes();

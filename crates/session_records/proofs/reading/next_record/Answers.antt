@@ -1,21 +1,15 @@
-use Rattle.std.proofs.Common.{◌≡◌, take, drop, true, sym, ap, ◌∙◌, arith}
-use Rattle.session_records.proofs.Spelled.{item_is_record, item_spelled, item_used}
+use Rattle.std.proofs.Common.{◌≡◌, take, drop, true, sym, ap, ◌∙◌, arith, rules}
+use Rattle.tbl_kinds.specs.Heads.{is_short, is_bad}
+use Rattle.session_records.specs.Reading.{IsReadAs}
+use Rattle.session_records.proofs.Spelled.{item}
 use Rattle.session_records.proofs.reading.next_record.Goals as goal
 
-pub returns-clause-is_record : goal.returns-clause-is_record
-returns-clause-is_record c =
+pub returns : goal.returns
+unfolding is_short is_bad
+returns c =
+    let body : c.split_at-2.result.0.now ≡ take c.of-head.result.len (drop 4 c.args.bytes.now) = c.split_at-2.ensures.front ∙ ap (take c.of-head.result.len) c.split_at.ensures.back in
     let good : c.is_good.result ≡ true = cc in
-    item_is_record c.of-head.result c.split_at-2.result.0.now c.record_of.new.request c.record_of.result (rw c.split_at-2.ensures.front_len (sym c.is_good.ensures ∙ good)) c.record_of.ensures
-
-pub returns-clause-spelled : goal.returns-clause-spelled
-returns-clause-spelled c =
-    let h = c.of-head.ensures in
-    let body : c.split_at-2.result.0.now ≡ take c.of-head.result.len (drop 4 c.args.bytes.now) = c.split_at-2.ensures.front ∙ ap (take c.of-head.result.len) c.split_at.ensures.back in
-    item_spelled c.of-head.result c.split_at-2.result.0.now c.record_of.new.request c.args.bytes.now (λ i. omega (arith, c.type_inv.bytes i)) (omega arith) h.kind h.actor h.len body c.split_at-2.ensures.front_len c.record_of.result c.record_of.ensures
-
--- as many bytes as the head states were there
-pub returns-clause-used : goal.returns-clause-used
-returns-clause-used c =
-    let h = c.of-head.ensures in
-    let body : c.split_at-2.result.0.now ≡ take c.of-head.result.len (drop 4 c.args.bytes.now) = c.split_at-2.ensures.front ∙ ap (take c.of-head.result.len) c.split_at.ensures.back in
-    item_used c.of-head.result c.split_at-2.result.0.now c.record_of.new.request c.args.bytes.now (λ i. omega (arith, c.type_inv.bytes i)) (omega arith) h.kind h.actor h.len body c.split_at-2.ensures.front_len c.record_of.result c.record_of.ensures
+    let read : IsReadAs c.of-head.result.kind c.split_at-2.result.0.now c.request_of.new.request true = rw c.if-not-branch.false at c.in_ok-request_of.ensures in
+    let it = item c.of-head.result c.args.bytes.now c.split_at-2.result.0.now c.actor_of.result c.request_of.new.request (λ i. omega (arith, c.type_inv.bytes i)) (omega arith) c.of-head.ensures
+    body c.split_at-2.ensures.front_len (sym c.is_good.ensures ∙ good) c.actor_of.ensures read.0 in
+    record { end = search rules; short = search rules; bad = search rules; is_record = it.is_record; spelled = it.spelled; used = it.count }
