@@ -1,12 +1,15 @@
 -- What contracts see of a bank in memory, and what a reset may leave of it.
 use mathlib.Core.Logic.{inl, inr}
-use Rattle.std.specs.Prelude.{◌≡◌, ◌⊎◌, ℕ, ◌+◌, ◌-◌, ◌≤◌, Bool, false, ◌&&◌, nat_lt, nat_le, List, [], ◌∷◌, ◌++◌, length, drop}
-use Rattle.tbl_kinds.specs.Numbers.{patched}
-use Rattle.tbl_outside.specs.Bank.{Torn}
-use Rattle.tbl_outside.specs.BankCalls.{BankCall, write as to_write}
-use Rattle.tbl_fakes.specs.Notes.{Noting, noted}
+use Rattle.std.specs.Prelude.{◌≡◌, ◌⊎◌, ℕ, ◌+◌, ◌-◌, ◌≤◌, Bool, false, ◌&&◌, nat_lt, nat_le, IsTrue, List, [], ◌∷◌, ◌++◌, length, drop, Result, OnOk, OnErr, is_err}
+use Rattle.tbl_kinds.specs.Numbers.{piece, patched}
+use Rattle.tbl_outside.specs.Bank.{Torn, LeavesOnly}
+use Rattle.tbl_outside.specs.BankCalls.{BankCall, read as to_read, write as to_write}
+use Rattle.tbl_outside.specs.Counts.{Counted}
+use Rattle.tbl_outside.specs.declared.bank.Written.{Written}
+use Rattle.tbl_outside.specs.declared.bank.Written.TheVariants.{Failed}
+use Rattle.tbl_fakes.specs.Notes.{Noting, nothing_noted, noted}
 use Rattle.tbl_fakes.specs.Past.{Passed}
-use Rattle.tbl_fakes.specs.Troubles.{Trouble, next_break, front_of, one_write, one_end}
+use Rattle.tbl_fakes.specs.Troubles.{Trouble, next_break, is_bad_read, front_of, how_ends, one_write, one_read, one_fault, one_end}
 
 -- its bytes, its writes so far, how many more its record has room for and with how many bytes, what it notes of its
 -- calls, and what goes wrong
@@ -36,7 +39,7 @@ unused bytes trouble writes room = record {
   past = [];
   writes_left = writes;
   room = room;
-  notes = record { calls = []; left = writes + 4096; room = room; missed = false };
+  notes = nothing_noted (writes + 4096) room;
   trouble = trouble;
 }
 
@@ -88,3 +91,24 @@ none_since (write ∷ past) image inside = none_since past image inside
 -- since this moment there is nothing but the bytes as they are
 pub only_bytes : (bank : Banking) (image : List ℕ) → MayHaveLeft bank (moment bank) image → image ≡ bank.bytes
 only_bytes bank image left = elim left [ inl now ↦ now | inr inside ↦ absurd (none_since bank.past image inside) ]
+
+-- a read into a piece fails exactly if its number is listed, and then moves nothing. It notes the call if it has room
+pub record ReadsBank {V : Type 0} {E : Type 0} (at : ℕ) (into filled : List ℕ) (old new : Banking) (result : Result V E) : Type 0 where
+  pub read : OnOk result (filled ≡ piece at (length into) old.bytes)
+  pub moments : LeavesOnly moment MayHaveLeft old new (λ image. image ≡ old.bytes)
+  pub keeps : Keeps (to_read at (length into)) old new
+  pub fails : is_err result ≡ is_bad_read old.trouble
+  pub unmoved : OnErr result (filled ≡ into)
+  pub ok : OnOk result (new ≡ after_call (to_read at (length into)) (one_read old.trouble) old)
+  pub err : OnErr result (new ≡ after_call (to_read at (length into)) (one_fault (one_read old.trouble)) old)
+
+-- a write for which it has room ends as its number says, and each image from inside it is shown. Without room it fails and writes nothing
+pub record WritesBank (at : ℕ) (bytes : List ℕ) (old new : Banking) (ended : Written) : Type 0 where
+  pub moments : LeavesOnly moment MayHaveLeft old new (Torn at (length bytes) old.bytes)
+  pub counted : Counted faults_of stops_of old new ended
+  pub keeps : Keeps (to_write at bytes) old new
+  pub ends : IsTrue (has_room old (length bytes)) → ended ≡ how_ends (next_break old.trouble)
+  pub written : IsTrue (has_room old (length bytes)) → new ≡ written_to at bytes old
+  pub inside : IsTrue (has_room old (length bytes)) → (image : List ℕ) → Torn at (length bytes) old.bytes image → MayHaveLeft new (moment old) image
+  pub full : has_room old (length bytes) ≡ false → ended ≡ Failed
+  pub unwritten : has_room old (length bytes) ≡ false → new ≡ after_call (to_write at bytes) (one_fault (one_write old.trouble)) old

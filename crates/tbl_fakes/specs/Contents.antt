@@ -1,9 +1,10 @@
 -- What contracts see of a source and of a sink in memory.
-use Rattle.std.specs.Prelude.{ℕ, ◌-◌, ◌==◌, nat_lt, if◌then◌else◌, List, [], ◌++◌, length, take, drop, Bool, true, false, Option, Some, None, min}
-use Rattle.tbl_outside.specs.Streams.{after_read}
+use Rattle.std.specs.Prelude.{◌≡◌, ℕ, ◌-◌, ◌≤◌, ◌==◌, ◌||◌, nat_lt, nat_le, if◌then◌else◌, List, [], ◌++◌, length, take, drop, Bool, true, false, Option, Some, None, min, Result, IfOk, OnErr, is_err}
+use Rattle.std.specs.Io.KnownBytes.{prepend_known}
+use Rattle.tbl_outside.specs.Streams.{after_read, TakesFront}
 use Rattle.tbl_outside.specs.declared.stream.HowFar.TheVariants.{Going}
 use Rattle.tbl_outside.specs.declared.stream.HowFar.{HowFar}
-use Rattle.tbl_fakes.specs.Calls.{Calls, none_made, passed, failed}
+use Rattle.tbl_fakes.specs.Calls.{Calls, none_made, is_listed, passed, failed}
 
 -- the bytes that are still to come, the reads, how many bytes come before each read fails, if that is so, and how far it was read
 pub record Reading : Type 0 where
@@ -60,3 +61,38 @@ filled bytes writing = record writing { taken = writing.taken ++ take writing.ro
 abbrev pub after_write : Bool → List ℕ → Writing → Writing
 after_write true bytes writing = record writing { calls = failed (passed writing.calls) }
 after_write false bytes writing = record (filled bytes writing) { calls = if nat_lt writing.room (length bytes) then failed (passed writing.calls) else passed writing.calls }
+
+-- as many bytes are moved to the front of a piece as there are, or as it has, and no more than this many
+pub record Moves (limit : ℕ) (into filled old new : List ℕ) (count : ℕ) : Type 0 where
+  pub most : count ≡ min (min (length into) (length old)) limit
+  pub moved : filled ≡ take count old ++ drop count into
+  pub left : new ≡ drop count old
+
+-- as many are moved as there are, or as the piece has, and none after the cut
+pub record Fills (into filled : List ℕ) (old new : Reading) (count : ℕ) : Type 0 where
+  pub most : count ≡ before_cut old.cut (min (length into) (length old.left))
+  pub front : filled ≡ take count old.left ++ drop count into
+  pub new_is : new ≡ moved count old
+
+-- A read fails exactly if its number is listed or as many bytes were taken as come before the cut, and else moves as much as it can, up to
+-- the cut.
+pub record ReadsOn {E : Type 0} (into filled : List ℕ) (old new : Reading) (result : Result ℕ E) : Type 0 where
+  pub count : old.calls.faults ≤ new.calls.faults
+  pub moved : IfOk result (λ n. Some old.left ≡ prepend_known (take n filled) (Some new.left))
+  pub fails : is_err result ≡ (is_listed old.calls || is_cut old.cut)
+  pub most : IfOk result (λ n. n ≡ before_cut old.cut (min (length into) (length old.left)))
+  pub rest : IfOk result (λ n. drop n filled ≡ drop n into)
+  pub ok : IfOk result (λ n. new ≡ given n old)
+  pub err : OnErr result (new ≡ refused old)
+
+-- as much of a piece is taken as there is room for, and it is told whether that is all
+pub record FillsRoom (bytes : List ℕ) (old new : Writing) (all : Bool) : Type 0 where
+  pub whole : all ≡ nat_le (length bytes) old.room
+  pub new_is : new ≡ filled bytes old
+
+-- A write fails exactly if its number is listed, and then takes nothing, or if the room is too small, and then takes what there is room for.
+pub record TakesOn {V : Type 0} {E : Type 0} (bytes : List ℕ) (old new : Writing) (result : Result V E) : Type 0 where
+  pub front : OnErr result (TakesFront (Some old.taken) (Some new.taken) bytes)
+  pub count : old.calls.faults ≤ new.calls.faults
+  pub fails : is_err result ≡ (is_listed old.calls || nat_lt old.room (length bytes))
+  pub new_is : new ≡ after_write (is_listed old.calls) bytes old

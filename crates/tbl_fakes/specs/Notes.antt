@@ -1,5 +1,5 @@
 -- What a bank in memory keeps of the calls that it got.
-use Rattle.std.specs.Prelude.{◌≡◌, ℕ, ◌-◌, Bool, true, ◌&&◌, nat_lt, nat_le, if◌then◌else◌, List, [], ◌∷◌, length, take, drop}
+use Rattle.std.specs.Prelude.{◌≡◌, ℕ, ◌-◌, Bool, true, false, ◌&&◌, nat_lt, nat_le, if◌then◌else◌, List, [], ◌∷◌, length, take, drop}
 use Rattle.std.specs.List.{sum_by}
 use Rattle.tbl_outside.specs.BankCalls.{BankCall, read, write}
 use Rattle.tbl_fakes.specs.declared.notes.NotedCall.{NotedCall}
@@ -12,6 +12,10 @@ pub record Noting : Type 0 where
   pub left : ℕ
   pub room : ℕ
   pub missed : Bool
+
+-- no call yet, and room for so many, with so many bytes of writes in all
+abbrev pub nothing_noted : ℕ → ℕ → Noting
+nothing_noted calls room = record { calls = []; left = calls; room = room; missed = false }
 
 -- how many bytes of room a call takes
 abbrev pub room_of : BankCall → ℕ

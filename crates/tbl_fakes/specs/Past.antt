@@ -10,6 +10,10 @@ pub record PastParts : Type 0 where
   pub writes : ℕ
   pub room : ℕ
 
+-- no write yet, and room for so many with so many bytes in all
+abbrev pub nothing_passed : ℕ → ℕ → PastParts
+nothing_passed writes room = record { spans = []; olds = []; writes = writes; room = room }
+
 -- as many bytes are kept as the ranges have
 abbrev pub OldsKept : List Span → List ℕ → Type 0
 OldsKept spans olds = length olds ≡ sum_by (λ span. span.length) spans

@@ -1,5 +1,5 @@
 -- Writes that break off and reads that fail, by their numbers, which count from 1.
-use Rattle.std.specs.Prelude.{ℕ, min, Bool, List, length, take, Option, None, Some, find, ◌==◌, if◌then◌else◌}
+use Rattle.std.specs.Prelude.{◌≡◌, ℕ, ◌≤◌, min, Bool, List, length, take, Option, None, Some, find, ◌==◌, if◌then◌else◌}
 use Rattle.std.specs.List.{list_any}
 use Rattle.tbl_outside.specs.Counts.{risen}
 use Rattle.tbl_outside.specs.declared.bank.Written.{Written}
@@ -65,3 +65,10 @@ how_ends (Some broken) = if broken.stop then Stopped else Failed
 abbrev pub one_end : Option Break → Trouble → Trouble
 one_end None trouble = trouble
 one_end (Some broken) trouble = if broken.stop then one_stop trouble else one_fault trouble
+
+-- a write ends so, and that is counted
+pub record EndsWrite (planned : Option Break) (old new : Trouble) (ended : Written) : Type 0 where
+  pub ends : ended ≡ how_ends planned
+  pub counted : new ≡ one_end planned old
+  pub faults : old.faults ≤ new.faults
+  pub stops : old.stops ≤ new.stops

@@ -1,10 +1,6 @@
 // A bank whose writes break off by their numbers, and which keeps no record.
-ghost use Rattle.std.specs.Prelude.{◌≡◌, ◌+◌, ◌<◌, ◌≤◌, ◌^◌, ℕ, List, length, IsOk, IfOk, None, ⊤, refl, []};
-ghost use Rattle.tbl_kinds.specs.Numbers.{piece, patched};
-ghost use Rattle.tbl_outside.specs.Bank.{Torn};
-ghost use Rattle.tbl_outside.specs.Counts.{Counted};
-ghost use Rattle.tbl_fakes.specs.Breaking.{faults_of, stops_of, last_of, written_to};
-ghost use Rattle.tbl_fakes.specs.Troubles.{none_yet, next_break, how_ends};
+ghost use Rattle.std.specs.Prelude.{◌≡◌, ◌+◌, ◌<◌, ◌≤◌, ◌^◌, ℕ, List, length, IfOk, ⊤, refl, []};
+ghost use Rattle.tbl_fakes.specs.Breaking.{faults_of, stops_of, last_of, unbroken, ReadsWell, BreaksOff};
 
 use crate::past::Span;
 use crate::troubles::{Break, Troubles, reach, write_over};
@@ -48,7 +44,7 @@ impl BreakingBank {
     /// A bank of these bytes, of which these writes break off. They are counted from 1.
     pub fn make(alloc: Global, bytes: Vec<u8>, breaks: &[Break]) -> Result<BreakingBank, Memory>
         requires { length bytes.items < 2 ^ 32 }
-        ensures { IfOk result (λ b. b ≡ record { bytes = bytes.items; trouble = none_yet breaks.now []; broken = None }) }
+        ensures { IfOk result (λ b. b ≡ unbroken bytes.items breaks.now) }
     {
         Ok(BreakingBank {
             bytes,
@@ -68,21 +64,21 @@ impl BreakingBank {
     pub fn write_count(&self) -> u64
         ensures { result ≡ self.now.trouble.writes }
     {
-        self.troubles.writes()
+        self.troubles.writes
     }
 
     /// How often it failed.
     pub fn faults(&self) -> u64
         ensures { result ≡ self.now.trouble.faults }
     {
-        self.troubles.faults()
+        self.troubles.faults
     }
 
     /// How often it was stopped.
     pub fn stops(&self) -> u64
         ensures { result ≡ self.now.trouble.stops }
     {
-        self.troubles.stops()
+        self.troubles.stops
     }
 
     /// The range of the last write that broke off.
@@ -136,9 +132,7 @@ impl Bank for BreakingBank {
 
     fn read_at(&mut self, at: u32, into: &mut [u8]) -> Result<(), Failed>
         requires { at + length into.old ≤ length self.old.bytes }
-        ensures ok { IsOk result }
-        ensures read { into.new ≡ piece at (length into.old) self.old.bytes }
-        ensures kept { self.new ≡ self.old }
+        ensures { ReadsWell at into.old into.new self.old.bytes self.old self.new result }
     {
         let from = at as usize;
         into.copy_from_slice(&self.bytes[from..from + into.len()]);
@@ -147,13 +141,7 @@ impl Bank for BreakingBank {
 
     fn write_at(&mut self, at: u32, bytes: &[u8]) -> Written
         requires { at + length bytes.now ≤ length self.old.bytes }
-        ensures torn { Torn at (length bytes.now) self.old.bytes self.new.bytes }
-        ensures fault_count { self.old.trouble.faults ≤ self.new.trouble.faults }
-        ensures stop_count { self.old.trouble.stops ≤ self.new.trouble.stops }
-
-        // It ends as its number says, with a front of the piece of which the number says how long it is.
-        ensures ends { result ≡ how_ends (next_break self.old.trouble) }
-        ensures written { self.new ≡ written_to at bytes.now self.old }
+        ensures { BreaksOff at bytes.now self.old self.new result }
     {
         let planned = self.troubles.next_write();
         let length = bytes.len() as u32;

@@ -1,6 +1,7 @@
 // A bank that never fails.
-ghost use Rattle.std.specs.Prelude.{◌≡◌, ◌+◌, ◌<◌, ◌≤◌, ◌^◌, ℕ, List, length, IsOk, IfOk, replicate, ⊤, refl, []};
-ghost use Rattle.tbl_kinds.specs.Numbers.{piece, patched};
+ghost use Rattle.std.specs.Prelude.{◌≡◌, ◌+◌, ◌<◌, ◌≤◌, ◌^◌, ℕ, List, length, IfOk, replicate, ⊤, refl, []};
+ghost use Rattle.tbl_kinds.specs.Numbers.{patched};
+ghost use Rattle.tbl_fakes.specs.Breaking.{ReadsWell};
 
 use std::alloc::Global;
 use std::marker::Model;
@@ -93,9 +94,7 @@ impl Bank for CalmBank {
 
     fn read_at(&mut self, at: u32, into: &mut [u8]) -> Result<(), Failed>
         requires { at + length into.old ≤ length self.old }
-        ensures ok { IsOk result }
-        ensures read { into.new ≡ piece at (length into.old) self.old }
-        ensures kept { self.new ≡ self.old }
+        ensures { ReadsWell at into.old into.new self.old self.old self.new result }
     {
         let from = at as usize;
         into.copy_from_slice(&self.bytes[from..from + into.len()]);

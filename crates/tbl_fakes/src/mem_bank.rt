@@ -1,12 +1,8 @@
 // A bank in memory.
-ghost use Rattle.std.specs.Prelude.{◌≡◌, ◌+◌, ◌<◌, ◌≤◌, ◌^◌, List, ℕ, ⊤, IsTrue, IfOk, OnOk, OnErr, false, is_err, length, map, refl};
+ghost use Rattle.std.specs.Prelude.{◌≡◌, ◌+◌, ◌<◌, ◌≤◌, ◌^◌, List, ℕ, ⊤, IfOk, false, length, map, refl};
 ghost use Rattle.std.proofs.Common.{inl};
-ghost use Rattle.tbl_kinds.specs.Numbers.{piece, patched};
-ghost use Rattle.tbl_outside.specs.Bank.{Torn, LeavesOnly};
-ghost use Rattle.tbl_outside.specs.BankCalls.{read, write};
-ghost use Rattle.tbl_outside.specs.Counts.{Still, RoseAlone, Counted};
-ghost use Rattle.tbl_fakes.specs.Troubles.{none_yet, next_break, is_bad_read, how_ends, one_write, one_read, one_fault};
-ghost use Rattle.tbl_fakes.specs.Banks.{faults_of, stops_of, has_room, unused, after_call, written_to, Keeps, moment, MayHaveLeft, only_bytes};
+ghost use Rattle.tbl_fakes.specs.Troubles.{none_yet};
+ghost use Rattle.tbl_fakes.specs.Banks.{faults_of, stops_of, unused, moment, MayHaveLeft, only_bytes, ReadsBank, WritesBank};
 
 use crate::notes::Notes;
 use crate::past::{Past, Span};
@@ -81,21 +77,21 @@ impl MemBank {
     pub fn faults(&self) -> u64
         ensures { result ≡ self.now.trouble.faults }
     {
-        self.troubles.faults()
+        self.troubles.faults
     }
 
     /// How often it was stopped.
     pub fn stops(&self) -> u64
         ensures { result ≡ self.now.trouble.stops }
     {
-        self.troubles.stops()
+        self.troubles.stops
     }
 
     /// How many writes it was asked for, those included for which it had no room.
     pub fn write_count(&self) -> u64
         ensures { result ≡ self.now.trouble.writes }
     {
-        self.troubles.writes()
+        self.troubles.writes
     }
 
     /// The ranges of the writes for which it had room, oldest first.
@@ -149,15 +145,7 @@ impl Bank for MemBank {
 
     fn read_at(&mut self, at: u32, into: &mut [u8]) -> Result<(), Failed>
         requires { at + length into.old ≤ length self.old.bytes }
-        ensures read { OnOk result (into.new ≡ piece at (length into.old) self.old.bytes) }
-        ensures moments { LeavesOnly moment MayHaveLeft self.old self.new (λ image. image ≡ self.old.bytes) }
-        ensures keeps { Keeps (read at (length into.old)) self.old self.new }
-
-        // It fails exactly if its number is listed, and then moves nothing. It notes the call if it has room.
-        ensures fails { is_err result ≡ is_bad_read self.old.trouble }
-        ensures unmoved { OnErr result (into.new ≡ into.old) }
-        ensures ok { OnOk result (self.new ≡ after_call (read at (length into.old)) (one_read self.old.trouble) self.old) }
-        ensures err { OnErr result (self.new ≡ after_call (read at (length into.old)) (one_fault (one_read self.old.trouble)) self.old) }
+        ensures { ReadsBank at into.old into.new self.old self.new result }
     {
         self.notes.note_read(at, into.len() as u32);
         if self.troubles.next_read_fails() {
@@ -171,20 +159,7 @@ impl Bank for MemBank {
 
     fn write_at(&mut self, at: u32, bytes: &[u8]) -> Written
         requires { at + length bytes.now ≤ length self.old.bytes }
-        ensures moments { LeavesOnly moment MayHaveLeft self.old self.new (Torn at (length bytes.now) self.old.bytes) }
-        ensures counted { Counted faults_of stops_of self.old self.new result }
-        ensures keeps { Keeps (write at bytes.now) self.old self.new }
-
-        // With room for it, it ends as its number says, and each image from inside it is shown.
-        ensures ends { IsTrue (has_room self.old (length bytes.now)) → result ≡ how_ends (next_break self.old.trouble) }
-        ensures written { IsTrue (has_room self.old (length bytes.now)) → self.new ≡ written_to at bytes.now self.old }
-        ensures inside { IsTrue (has_room self.old (length bytes.now)) → (image : List ℕ) →
-            Torn at (length bytes.now) self.old.bytes image → MayHaveLeft self.new (moment self.old) image }
-
-        // Without room it fails and writes nothing.
-        ensures full { has_room self.old (length bytes.now) ≡ false → result ≡ Written.Failed }
-        ensures unwritten { has_room self.old (length bytes.now) ≡ false →
-            self.new ≡ after_call (write at bytes.now) (one_fault (one_write self.old.trouble)) self.old }
+        ensures { WritesBank at bytes.now self.old self.new result }
     {
         self.notes.note_write(at, bytes);
         let planned = self.troubles.next_write();

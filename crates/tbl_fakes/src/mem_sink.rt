@@ -1,10 +1,6 @@
 // A sink in memory.
-ghost use Rattle.std.specs.Prelude.{◌≡◌, ◌≤◌, ◌||◌, nat_lt, nat_le, [], length, Some, IfOk, OnOk, OnErr, is_err};
-ghost use Rattle.std.specs.Io.KnownBytes.{append_known};
-ghost use Rattle.tbl_outside.specs.Counts.{Rose};
-ghost use Rattle.tbl_outside.specs.Streams.{TakesFront};
-ghost use Rattle.tbl_fakes.specs.Calls.{is_listed};
-ghost use Rattle.tbl_fakes.specs.Contents.{untaken, filled, after_write};
+ghost use Rattle.std.specs.Prelude.{◌≡◌, [], Some, IfOk};
+ghost use Rattle.tbl_fakes.specs.Contents.{untaken, FillsRoom, TakesOn};
 
 use crate::plan::Plan;
 use std::alloc::Global;
@@ -62,13 +58,12 @@ impl MemSink {
     pub fn faults(&self) -> u64
         ensures { result ≡ self.now.calls.faults }
     {
-        self.plan.faults()
+        self.plan.faults
     }
 
     // Takes as much as there is room for, and says whether that was all.
     fn fill(&mut self, bytes: &[u8]) -> bool
-        ensures whole { result ≡ nat_le (length bytes.now) self.old.room }
-        ensures filled { self.new ≡ filled bytes.now self.old }
+        ensures { FillsRoom bytes.now self.old self.new result }
     {
         let fitting = bytes.len().min(self.room);
         self.taken.append(&bytes[..fitting]);
@@ -83,13 +78,7 @@ impl Sink for MemSink {
     ghost faults = { λ s. s.calls.faults };
 
     fn write(&mut self, bytes: &[u8]) -> Result<(), Failed>
-        ensures front { OnErr result (TakesFront (Some self.old.taken) (Some self.new.taken) bytes.now) }
-        ensures count { self.old.calls.faults ≤ self.new.calls.faults }
-
-        // It fails exactly if its number is listed, and then takes nothing, or if the room is too small, and then takes what there is room
-        // for.
-        ensures fails { is_err result ≡ (is_listed self.old.calls || nat_lt self.old.room (length bytes.now)) }
-        ensures new { self.new ≡ after_write (is_listed self.old.calls) bytes.now self.old }
+        ensures { TakesOn bytes.now self.old self.new result }
     {
         if self.plan.fails_next() {
             self.plan.fault();

@@ -1,10 +1,8 @@
 // A source in memory.
-ghost use Rattle.std.specs.Prelude.{◌≡◌, ◌<◌, ◌≤◌, ◌++◌, ◌||◌, [], length, take, drop, min, Some, None, IfOk, OnOk, OnErr, is_err};
-ghost use Rattle.std.specs.Io.KnownBytes.{prepend_known, IsAtEnd};
-ghost use Rattle.tbl_outside.specs.Counts.{Rose};
+ghost use Rattle.std.specs.Prelude.{◌≡◌, [], Some, None, IfOk};
 ghost use Rattle.tbl_outside.specs.Streams.{after_read};
-ghost use Rattle.tbl_fakes.specs.Calls.{is_listed, none_made};
-ghost use Rattle.tbl_fakes.specs.Contents.{unread, is_cut, before_cut, moved, given, refused};
+ghost use Rattle.tbl_fakes.specs.Calls.{none_made};
+ghost use Rattle.tbl_fakes.specs.Contents.{unread, Fills, ReadsOn};
 
 use crate::plan::Plan;
 use crate::supply::Supply;
@@ -86,7 +84,7 @@ impl MemSource {
     pub fn faults(&self) -> u64
         ensures { result ≡ self.now.calls.faults }
     {
-        self.plan.faults()
+        self.plan.faults
     }
 
     /// How far it was read.
@@ -96,21 +94,9 @@ impl MemSource {
         self.how_far
     }
 
-    /// Whether each read fails from here on.
-    fn is_cut(&self) -> bool
-        ensures { result ≡ is_cut self.now.cut }
-    {
-        match self.cut {
-            None => false,
-            Some(bytes) => bytes == 0,
-        }
-    }
-
     /// Moves as much as it can, and no byte after the cut.
     fn fill(&mut self, into: &mut [u8]) -> usize
-        ensures count { result ≡ before_cut self.old.cut (min (length into.old) (length self.old.left)) }
-        ensures moved { into.new ≡ take result self.old.left ++ drop result into.old }
-        ensures new { self.new ≡ moved result self.old }
+        ensures { Fills into.old into.new self.old self.new result }
     {
         match self.cut {
             None => self.supply.fill_up_to(into, into.len()),
@@ -131,19 +117,10 @@ impl Source for MemSource {
     ghost how_far = { λ s. s.how_far };
 
     fn read(&mut self, into: &mut [u8]) -> Result<usize, Failed>
-        ensures count { self.old.calls.faults ≤ self.new.calls.faults }
-        ensures moved { IfOk result (λ n. Some self.old.left ≡ prepend_known (take n into.new) (Some self.new.left)) }
-
-        // It fails exactly if its number is listed or as many bytes were taken as come before the cut, and else moves as much as it can, up
-        // to the cut.
-        ensures fails { is_err result ≡ (is_listed self.old.calls || is_cut self.old.cut) }
-        ensures most { IfOk result (λ n. n ≡ before_cut self.old.cut (min (length into.old) (length self.old.left))) }
-        ensures rest { IfOk result (λ n. drop n into.new ≡ drop n into.old) }
-        ensures ok { IfOk result (λ n. self.new ≡ given n self.old) }
-        ensures err { OnErr result (self.new ≡ refused self.old) }
+        ensures { ReadsOn into.old into.new self.old self.new result }
     {
         let listed = self.plan.fails_next();
-        if listed || self.is_cut() {
+        if listed || self.cut == Some(0) {
             self.plan.fault();
             self.how_far = after_read(0, self.how_far);
             return Err(Failed);

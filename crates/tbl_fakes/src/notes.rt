@@ -1,7 +1,7 @@
 // The calls that a bank in memory got.
 ghost use Rattle.std.specs.Prelude.{◌≡◌, ◌+◌, ◌<◌, ◌^◌, true, false, [], IfOk, length};
 ghost use Rattle.tbl_outside.specs.BankCalls.{read, write};
-ghost use Rattle.tbl_fakes.specs.Notes.{has_room_for, with_call, noted, kept_of, call_of};
+ghost use Rattle.tbl_fakes.specs.Notes.{nothing_noted, has_room_for, with_call, noted, kept_of, call_of};
 
 use std::alloc::Global;
 use std::marker::Model;
@@ -41,7 +41,7 @@ impl Model for Notes {
 impl Notes {
     /// No call yet, and room for so many, with so many bytes of writes in all.
     pub(crate) fn make(alloc: Global, calls: usize, room: u32) -> Result<Notes, Memory>
-        ensures { IfOk result (λ n. n ≡ record { calls = []; left = calls; room = room; missed = false }) }
+        ensures { IfOk result (λ n. n ≡ nothing_noted calls room) }
     {
         Ok(Notes {
             calls: Vec::with_capacity(alloc, calls)?,
@@ -50,13 +50,6 @@ impl Notes {
             room: room as usize,
             missed: false,
         })
-    }
-
-    /// Whether there is room for a call that writes so many bytes.
-    fn has_room(&self, size: usize) -> bool
-        ensures { result ≡ has_room_for size self.now }
-    {
-        0 < self.left && size <= self.room
     }
 
     /// Keeps a call and the bytes that it writes.
@@ -75,7 +68,7 @@ impl Notes {
     pub(crate) fn note_read(&mut self, at: u32, length: u32)
         ensures { self.new ≡ noted (read at length) self.old }
     {
-        if self.has_room(0) {
+        if 0 < self.left {
             self.keep(NotedCall::Read(at, length), &[]);
         } else {
             self.missed = true;
@@ -87,7 +80,7 @@ impl Notes {
         requires { length bytes.now < 2 ^ 32 }
         ensures { self.new ≡ noted (write at bytes.now) self.old }
     {
-        if self.has_room(bytes.len()) {
+        if 0 < self.left && bytes.len() <= self.room {
             self.keep(NotedCall::Write(at, bytes.len() as u32), bytes);
         } else {
             self.missed = true;

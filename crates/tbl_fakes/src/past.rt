@@ -1,6 +1,6 @@
 // The writes that a bank in memory was asked for, with the bytes that were there before them.
 ghost use Rattle.std.specs.Prelude.{◌≡◌, ◌<◌, ◌^◌, [], IfOk, IsTrue, length};
-ghost use Rattle.tbl_fakes.specs.Past.{fits, with_write};
+ghost use Rattle.tbl_fakes.specs.Past.{nothing_passed, fits, with_write};
 
 use std::alloc::Global;
 use std::marker::Model;
@@ -41,7 +41,7 @@ impl Past {
 
     /// No write yet, and room for so many with so many bytes in all.
     pub(crate) fn make(alloc: Global, writes: u32, room: u32) -> Result<Past, Memory>
-        ensures { IfOk result (λ p. p ≡ record { spans = []; olds = []; writes = writes; room = room }) }
+        ensures { IfOk result (λ p. p ≡ nothing_passed writes room) }
     {
         Ok(Past {
             spans: Vec::with_capacity(alloc, writes as usize)?,

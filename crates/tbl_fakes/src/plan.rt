@@ -11,7 +11,7 @@ use tbl_kinds::Memory;
 pub(crate) struct Plan {
     listed: Vec<u32>,
     made: u64,
-    faults: u64,
+    pub(crate) faults: u64,
 }
 
 impl Model for Plan {
@@ -61,11 +61,5 @@ impl Plan {
         ensures no_less { self.old.faults ≤ self.new.faults }
     {
         self.faults = self.faults.saturating_add(1);
-    }
-
-    pub(crate) fn faults(&self) -> u64
-        ensures { result ≡ self.now.faults }
-    {
-        self.faults
     }
 }

@@ -1,5 +1,6 @@
 // Bytes that are read from the front.
-ghost use Rattle.std.specs.Prelude.{◌≡◌, ◌++◌, ◌≤◌, length, take, drop, min};
+ghost use Rattle.std.specs.Prelude.{◌≡◌};
+ghost use Rattle.tbl_fakes.specs.Contents.{Moves};
 
 use std::marker::Model;
 use tbl_kinds::Bytes;
@@ -36,9 +37,7 @@ impl Supply {
 
     /// Moves as many bytes as there are, or as the piece has, and no more than this many. It answers how many.
     pub(crate) fn fill_up_to(&mut self, into: &mut [u8], most: usize) -> usize
-        ensures count { result ≡ min (min (length into.old) (length self.old)) most }
-        ensures moved { into.new ≡ take result self.old ++ drop result into.old }
-        ensures left { self.new ≡ drop result self.old }
+        ensures { Moves most into.old into.new self.old self.new result }
     {
         let rest = &self.bytes.bytes()[self.at..];
         let count = into.len().min(rest.len()).min(most);

@@ -1,7 +1,7 @@
 // What goes wrong in a bank in memory, and how often it did.
-ghost use Rattle.std.specs.Prelude.{◌≡◌, ◌+◌, ◌++◌, ◌≤◌, IfOk, length, take, drop};
-ghost use Rattle.tbl_fakes.specs.Troubles.{none_yet, next_break, is_bad_read, reach_of, how_ends};
-ghost use Rattle.tbl_fakes.specs.Troubles.{one_write, one_read, one_fault, one_end};
+ghost use Rattle.std.specs.Prelude.{◌≡◌, ◌+◌, ◌≤◌, IfOk, length};
+ghost use Rattle.tbl_kinds.specs.Numbers.{patched};
+ghost use Rattle.tbl_fakes.specs.Troubles.{none_yet, next_break, is_bad_read, reach_of, one_write, one_read, one_fault, EndsWrite};
 
 use std::alloc::Global;
 use std::marker::Model;
@@ -24,10 +24,10 @@ pub struct Break {
 pub(crate) struct Troubles {
     breaks: Vec<Break>,
     bad_reads: Vec<u32>,
-    writes: u64,
+    pub(crate) writes: u64,
     reads: u64,
-    faults: u64,
-    stops: u64,
+    pub(crate) faults: u64,
+    pub(crate) stops: u64,
 }
 
 impl Model for Troubles {
@@ -59,7 +59,7 @@ pub(crate) fn reach(planned: Option<Break>, length: usize) -> usize
 /// Writes a piece over bytes from a place on.
 pub(crate) fn write_over(bytes: &mut Vec<u8>, at: usize, piece: &[u8])
     requires { at + length piece.now ≤ length bytes.old.items }
-    ensures bytes { bytes.new.items ≡ take at bytes.old.items ++ piece.now ++ drop (at + length piece.now) bytes.old.items }
+    ensures { bytes.new.items ≡ patched bytes.old.items at piece.now }
 {
     bytes[at..at + piece.len()].copy_from_slice(piece);
 }
@@ -96,10 +96,7 @@ impl Troubles {
 
     /// Says how a write ends, and counts it.
     pub(crate) fn end_write(&mut self, planned: Option<Break>) -> Written
-        ensures ends { result ≡ how_ends planned }
-        ensures counted { self.new ≡ one_end planned self.old }
-        ensures faults { self.old.faults ≤ self.new.faults }
-        ensures stops { self.old.stops ≤ self.new.stops }
+        ensures { EndsWrite planned self.old self.new result }
     {
         match planned {
             None => Written::Done,
@@ -131,23 +128,5 @@ impl Troubles {
         ensures no_less { self.old.faults ≤ self.new.faults }
     {
         self.faults = self.faults.saturating_add(1);
-    }
-
-    pub(crate) fn writes(&self) -> u64
-        ensures { result ≡ self.now.writes }
-    {
-        self.writes
-    }
-
-    pub(crate) fn faults(&self) -> u64
-        ensures { result ≡ self.now.faults }
-    {
-        self.faults
-    }
-
-    pub(crate) fn stops(&self) -> u64
-        ensures { result ≡ self.now.stops }
-    {
-        self.stops
     }
 }

@@ -1,6 +1,7 @@
 -- A write that had room joins the record.
-use Rattle.std.proofs.Common.{◌≡◌, ◌+◌, ◌-◌, ◌≤◌, ◌++◌, ◌∷◌, [], ℕ, List, length, take, drop, arith, ap, ◌∙◌}
+use Rattle.std.proofs.Common.{◌≡◌, ◌+◌, ◌-◌, ◌≤◌, ◌++◌, ◌∷◌, [], ℕ, List, length, take, drop, arith, rules, ap, ◌∙◌}
 use Rattle.std.specs.Prelude.{Option}
+use Rattle.std.proofs.lemmas.Grind.{common_steps}
 use Rattle.tbl_kinds.specs.Numbers.{piece, patched}
 use Rattle.tbl_outside.specs.BankCalls.{write}
 use Rattle.tbl_fakes.specs.Notes.{noted}
@@ -15,7 +16,7 @@ use Rattle.tbl_fakes.proofs.mem_bank.MemBankBank.write_at.Goals as goal
 
 -- the bytes with a front of the piece
 front : (c : goal.After-end_write) → c.write_over.new.bytes.items ≡ patched c.args.self.now.bytes c.args.at (take c.reach-reach.result c.args.bytes.now)
-front c = rw (← c.self.view_is) c.write_over.ensures.bytes
+front c = rw (← c.self.view_is) c.write_over.ensures
 
 -- what is kept is what was in the range
 fits : (c : goal.After-end_write) → c.args.at + length c.args.bytes.now ≤ length c.self.inside.bytes.items
@@ -31,13 +32,10 @@ kept c =
 more : (c : goal.After-end_write) → passed c.keep.new.self.spans c.keep.new.self.olds c.write_over.new.bytes.items ≡ c.args.self.now.past ++ written_over c.args.self.now c.args.at (length c.args.bytes.now) ∷ []
 more c =
     let b = c.self.inside in
-    rw (← c.self.view_is) (kept_and_written b.past.spans _ b.past.olds _ b.bytes.items _ _ c.args.bytes.now c.args.at c.reach-reach.result c.keep.ensures.whole (fits c) (kept c) (ap (λ (p : PastParts). p.spans) c.keep.ensures.kept) (ap (λ (p : PastParts). p.olds) c.keep.ensures.kept) c.write_over.ensures.bytes)
+    rw (← c.self.view_is) (kept_and_written b.past.spans _ b.past.olds _ b.bytes.items _ _ c.args.bytes.now c.args.at c.reach-reach.result c.keep.ensures.whole (fits c) (kept c) (ap (λ (p : PastParts). p.spans) c.keep.ensures.kept) (ap (λ (p : PastParts). p.olds) c.keep.ensures.kept) c.write_over.ensures)
 
-pub returns-clause-moments : goal.returns-clause-moments
-returns-clause-moments c = leaves_front c.args.self.now _ c.args.at c.reach-reach.result c.args.bytes.now c.requires (front c) (more c)
-
-pub returns-clause-written : goal.returns-clause-written
-returns-clause-written c = λ room.
+pub returns : goal.returns
+returns c =
     let at = c.args.at in
     let bytes = c.args.bytes.now in
     let old = c.args.self.now in
@@ -55,7 +53,13 @@ returns-clause-written c = λ room.
     c.end_write.ensures.counted
     ∙ (λ i. one_end (planned i) (c.next_write-planned.ensures.counted i))
     ∙ ap (λ (b : Banking). one_end (next_break old.trouble) (one_write b.trouble)) c.self.view_is in
-    λ i. record { bytes = stands i; past = past i; writes_left = writes i; room = left i; notes = notes i; trouble = trouble i }
-
-pub returns-clause-inside : goal.returns-clause-inside
-returns-clause-inside c = λ room image torn. leaves_inside c.args.self.now (passed c.keep.new.self.spans c.keep.new.self.olds c.write_over.new.bytes.items) c.args.at (length c.args.bytes.now) image (more c) torn
+    record {
+      moments = leaves_front c.args.self.now _ c.args.at c.reach-reach.result c.args.bytes.now c.requires (front c) (more c);
+      counted = search rules;
+      keeps = record { size = grind (arith, common_steps); fault_count = search rules; stop_count = search rules; told = search rules; bank_calls = search rules };
+      ends = search rules;
+      written = λ room. λ i. record { bytes = stands i; past = past i; writes_left = writes i; room = left i; notes = notes i; trouble = trouble i };
+      inside = λ room image torn. leaves_inside c.args.self.now (passed c.keep.new.self.spans c.keep.new.self.olds c.write_over.new.bytes.items) c.args.at (length c.args.bytes.now) image (more c) torn;
+      full = search rules;
+      unwritten = search rules;
+    }
