@@ -3,7 +3,8 @@ use Rattle.std.specs.Prelude.{◌≡◌, ◌≢◌, ◌⊎◌, ℕ, ◌+◌, ◌
 use Rattle.std.specs.Fmt.{decimal}
 use Rattle.std.specs.Io.KnownBytes.{append_known, prepend_known, IsAtEnd}
 use Rattle.tbl_outside.specs.Counts.{Rose}
-use Rattle.tbl_outside.specs.Streams.{TakesFront}
+use Rattle.tbl_outside.specs.Streams.{TakesFront, ReadsToEnd}
+use Rattle.tbl_outside.specs.declared.stream.HowFar.{HowFar}
 use Rattle.tbl_outside.specs.declared.stream.Sink.{Ghosts as SinkGhosts}
 use Rattle.tbl_outside.specs.declared.stream.Source.{Ghosts as SourceGhosts}
 use Rattle.tbl_kinds.specs.TableFiles.{table_file_in}
@@ -25,6 +26,23 @@ source_told g source = record { bytes = g.left source; faults = g.faults source 
 
 abbrev pub sink_told : {K : Type 0} → SinkGhosts K → K → Told
 sink_told g sink = record { bytes = g.taken sink; faults = g.faults sink }
+
+-- what a source told before a call and after it, and how far it was read; and what a sink told
+pub record Gave : Type 0 where
+  pub before : Told
+  pub after : Told
+  pub far : HowFar
+  pub far_then : HowFar
+
+pub record Took : Type 0 where
+  pub before : Told
+  pub after : Told
+
+abbrev pub gave : {S : Type 0} → SourceGhosts S → S → S → Gave
+gave g old new = record { before = source_told g old; after = source_told g new; far = g.how_far old; far_then = g.how_far new }
+
+abbrev pub took : {K : Type 0} → SinkGhosts K → K → K → Took
+took g old new = record { before = sink_told g old; after = sink_told g new }
 
 -- ---- what comes of an input
 
@@ -121,3 +139,35 @@ MakesThrough status source source_then sink sink_then =
 abbrev pub DescribesThrough : List Form → ℕ → Told → Told → Told → Told → Type 0
 DescribesThrough shape status source source_then sink sink_then =
     (file : List ℕ) → source.bytes ≡ Some file → length file ≤ most_input → describe_fault shape file ≡ None → IsCalm source source_then → IsCalm sink sink_then → (status ≡ 0) ⊎ (status ≡ 1)
+
+-- ---- what each call promises
+
+-- bytes were written with a status, what comes of an input, or a bad line; and a write fails only with 4
+pub record PutsBytes (answer : ℕ) (bytes : List ℕ) (status : ℕ) (sink : Took) : Type 0 where
+  pub written : Writes answer bytes status sink.before sink.after
+  pub calm : (status ≢ 4) → sink.after.faults ≡ sink.before.faults
+
+pub record PutsFor (comes : ℕ → List ℕ → Type 0) (status : ℕ) (sink : Took) : Type 0 where
+  pub tells : Tells comes status sink.before sink.after
+  pub calm : (status ≢ 4) → sink.after.faults ≡ sink.before.faults
+
+pub record PutsLine (number status : ℕ) (sink : Took) : Type 0 where
+  pub tells : TellsLine number status sink.before sink.after
+  pub calm : (status ≢ 4) → sink.after.faults ≡ sink.before.faults
+
+-- `make`: what was read, what comes of it, and what was written of that. Nothing is read after the end of the input, nor after a read that
+-- failed.
+pub record MakesInput (status : ℕ) (source : Gave) (sink : Took) : Type 0 where
+  pub answers : Answers ComesOfText status source.before source.after sink.before sink.after
+  pub made : MakesOnly status source.before source.after sink.before sink.after
+  pub failures : TellsFailures status source.before source.after sink.before sink.after
+  pub once : ReadsToEnd source.far source.far_then
+  pub complete : MakesThrough status source.before source.after sink.before sink.after
+
+-- `describe`, by a shape
+pub record DescribesInput (shape : List Form) (status : ℕ) (source : Gave) (sink : Took) : Type 0 where
+  pub answers : Answers (ComesOfFile shape) status source.before source.after sink.before sink.after
+  pub described : DescribesOnly shape status source.before source.after sink.before sink.after
+  pub failures : TellsFailures status source.before source.after sink.before sink.after
+  pub once : ReadsToEnd source.far source.far_then
+  pub complete : DescribesThrough shape status source.before source.after sink.before sink.after

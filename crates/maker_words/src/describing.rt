@@ -1,8 +1,6 @@
 //! The word `describe`.
 
-ghost use Rattle.std.specs.Prelude.{◌≡◌, ◌≢◌, ◌⊎◌};
-ghost use Rattle.tbl_outside.specs.Streams.{ReadsToEnd};
-ghost use Rattle.maker_words.specs.Answers.{Answers, ComesOfFile, DescribesOnly, DescribesThrough, Tells, TellsFailures, sink_told, source_told};
+ghost use Rattle.maker_words.specs.Answers.{ComesOfFile, DescribesInput, PutsFor, gave, took};
 
 use crate::inputs::read_input;
 use crate::writing::{DONE, NO_FILE, NO_MEMORY, OTHER_LENGTH, status_of, write_with};
@@ -12,8 +10,7 @@ use tbl_outside::{Sink, Source};
 
 /// Writes what comes of a file, and answers the status.
 fn describe_bytes<K: Sink>(alloc: Global, shape: &Shape, file: &[u8], sink: &mut K) -> u8
-    ensures tells { Tells (ComesOfFile shape.now file.now) result (sink_told K.Sink sink.old) (sink_told K.Sink sink.new) }
-    ensures calm { (result ≢ 4) → K.faults sink.new ≡ K.faults sink.old }
+    ensures { PutsFor (ComesOfFile shape.now file.now) result (took K.Sink sink.old sink.new) }
 {
     match describe_file(alloc, shape, file) {
         Ok(text) => write_with(DONE, text.bytes(), sink),
@@ -33,17 +30,9 @@ pub fn describe_input<S: Source, K: Sink>(
     source: &mut S,
     sink: &mut K,
 ) -> u8
-    // What was read, what comes of it, and what was written of that.
-    ensures answers { Answers (ComesOfFile shape.now) result (source_told S.Source source.old) (source_told S.Source source.new) (sink_told K.Sink sink.old) (sink_told K.Sink sink.new) }
     // 0 comes only of a file that the shape describes, and then the sink took the text of the one description of this shape that tells
-    // what the file tells.
-    ensures described { DescribesOnly shape.now result (source_told S.Source source.old) (source_told S.Source source.new) (sink_told K.Sink sink.old) (sink_told K.Sink sink.new) }
-    // A read that failed is told by 3, and a write that failed by 4.
-    ensures failures { TellsFailures result (source_told S.Source source.old) (source_told S.Source source.new) (sink_told K.Sink sink.old) (sink_told K.Sink sink.new) }
-    // Nothing is read after the end of the input, nor after a read that failed.
-    ensures once { ReadsToEnd (S.how_far source.old) (S.how_far source.new) }
-    // It comes always of such a file, unless something outside failed or memory ran out.
-    ensures complete { DescribesThrough shape.now result (source_told S.Source source.old) (source_told S.Source source.new) (sink_told K.Sink sink.old) (sink_told K.Sink sink.new) }
+    // what the file tells. It comes always of such a file, unless something outside failed or memory ran out.
+    ensures { DescribesInput shape.now result (gave S.Source source.old source.new) (took K.Sink sink.old sink.new) }
 {
     match read_input(alloc, source) {
         Ok(file) => describe_bytes(alloc, shape, file.bytes(), sink),

@@ -1,11 +1,7 @@
 //! Reads an input to its end, as far as it may go.
 
-ghost use Rattle.std.specs.Prelude.{◌≡◌, ◌≢◌, ℕ, ◌+◌, ◌<◌, ◌≤◌, List, Ok, true, length, OnOk, IfErr};
-ghost use Rattle.std.specs.Io.KnownBytes.{prepend_known, IsAtEnd};
-ghost use Rattle.tbl_outside.specs.Counts.{Rose};
-ghost use Rattle.tbl_outside.specs.Streams.{ReadsOn, ReadsToEnd};
-ghost use Rattle.maker_words.specs.Inputs.{most_input, KeepsPiece, ReadsPiece, ReadsInput};
-ghost use Rattle.maker_words.specs.declared.inputs.InputFault.TheVariants.{Failed as ReadFailed};
+ghost use Rattle.std.specs.Prelude.{◌+◌, ◌<◌, ◌≤◌, length};
+ghost use Rattle.maker_words.specs.Inputs.{most_input, IsRoom, KeepsAll, TakesInput, TakesPiece};
 
 use std::alloc::Global;
 use tbl_kinds::{Bytes, Memory};
@@ -42,8 +38,7 @@ impl From<Memory> for InputFault {
 /// Keeps a piece, where it isn't too much.
 fn keep_piece(input: &mut Bytes, piece: &[u8]) -> Result<(), InputFault>
     requires { length input.old.list + length piece.now ≤ most_input + 1 }
-    ensures kept { KeepsPiece result input.old.list input.new.list piece.now }
-    ensures cause { IfErr result (λ fault. fault ≢ ReadFailed) }
+    ensures { KeepsAll result input.old.list input.new.list piece.now }
 {
     if input.bytes().len() + piece.len() > MOST_INPUT {
         return Err(InputFault::TooLong);
@@ -62,13 +57,7 @@ fn read_piece<S: Source>(
     requires some { 0 < length piece.old }
     requires few { length input.old.list + length piece.old ≤ most_input + 1 }
     requires more { length input.old.list ≤ most_input }
-    ensures reads { (read : List ℕ) × (S.left source.old ≡ prepend_known read (S.left source.new)) × ReadsPiece result input.old.list input.new.list read (IsAtEnd (S.left source.new)) }
-    ensures failed { IfErr result (λ fault. fault ≡ ReadFailed → Rose (S.faults source.old) (S.faults source.new)) }
-    ensures still { OnOk result (S.faults source.new ≡ S.faults source.old) }
-    ensures other { IfErr result (λ fault. (fault ≢ ReadFailed) → S.faults source.new ≡ S.faults source.old) }
-    ensures count { S.faults source.old ≤ S.faults source.new }
-    ensures goes_on { result ≡ Ok true → ReadsOn (S.how_far source.old) (S.how_far source.new) }
-    ensures once { ReadsToEnd (S.how_far source.old) (S.how_far source.new) }
+    ensures { TakesPiece S.Source source.old source.new input.old.list input.new.list result }
 {
     match source.read(piece) {
         Err(Failed) => Err(InputFault::Failed),
@@ -83,20 +72,14 @@ fn read_piece<S: Source>(
 /// How many bytes are asked for next.
 fn room_after(len: usize) -> usize
     requires { len ≤ most_input }
-    ensures some { 0 < result }
-    ensures few { result ≤ 4096 }
-    ensures fits { len + result ≤ most_input + 1 }
+    ensures { IsRoom len result }
 {
     (MOST_INPUT + 1 - len).min(PIECE_LENGTH)
 }
 
 /// Reads an input to its end.
 pub(crate) fn read_input<S: Source>(alloc: Global, source: &mut S) -> Result<Bytes, InputFault>
-    ensures reads { (read : List ℕ) × (S.left source.old ≡ prepend_known read (S.left source.new)) × ReadsInput result read (IsAtEnd (S.left source.new)) }
-    ensures failed { IfErr result (λ fault. fault ≡ ReadFailed → Rose (S.faults source.old) (S.faults source.new)) }
-    ensures still { OnOk result (S.faults source.new ≡ S.faults source.old) }
-    ensures other { IfErr result (λ fault. (fault ≢ ReadFailed) → S.faults source.new ≡ S.faults source.old) }
-    ensures once { ReadsToEnd (S.how_far source.old) (S.how_far source.new) }
+    ensures { TakesInput S.Source source.old source.new result }
 {
     let mut input = Bytes::make(alloc, 0)?;
     let mut piece = [0u8; PIECE_LENGTH];

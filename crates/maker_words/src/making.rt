@@ -1,8 +1,7 @@
 //! The word `make`.
 
-ghost use Rattle.std.specs.Prelude.{◌≡◌, ◌≢◌, IfOk};
-ghost use Rattle.tbl_outside.specs.Streams.{ReadsToEnd};
-ghost use Rattle.maker_words.specs.Answers.{Answers, ComesOfText, MakesOnly, MakesThrough, Tells, TellsFailures, TellsLine, bad_line, sink_told, source_told};
+ghost use Rattle.std.specs.Prelude.{◌≡◌, IfOk};
+ghost use Rattle.maker_words.specs.Answers.{ComesOfText, MakesInput, PutsFor, PutsLine, bad_line, gave, took};
 
 use crate::inputs::read_input;
 use crate::writing::{BAD_LINE, DONE, NO_MEMORY, status_of, write_with};
@@ -25,8 +24,7 @@ fn bad_line(alloc: Global, number: u32) -> Result<Bytes, Memory>
 
 /// Writes the number of a bad line, and answers the status.
 fn tell_bad_line<K: Sink>(alloc: Global, number: u32, sink: &mut K) -> u8
-    ensures tells { TellsLine number result (sink_told K.Sink sink.old) (sink_told K.Sink sink.new) }
-    ensures calm { (result ≢ 4) → K.faults sink.new ≡ K.faults sink.old }
+    ensures { PutsLine number result (took K.Sink sink.old sink.new) }
 {
     match bad_line(alloc, number) {
         Ok(line) => write_with(BAD_LINE, line.bytes(), sink),
@@ -36,8 +34,7 @@ fn tell_bad_line<K: Sink>(alloc: Global, number: u32, sink: &mut K) -> u8
 
 /// Writes what comes of a text, and answers the status.
 fn make_text<K: Sink>(alloc: Global, text: &[u8], sink: &mut K) -> u8
-    ensures tells { Tells (ComesOfText text.now) result (sink_told K.Sink sink.old) (sink_told K.Sink sink.new) }
-    ensures calm { (result ≢ 4) → K.faults sink.new ≡ K.faults sink.old }
+    ensures { PutsFor (ComesOfText text.now) result (took K.Sink sink.old sink.new) }
 {
     match make_file(alloc, text) {
         Ok(file) => write_with(DONE, file.bytes(), sink),
@@ -50,16 +47,9 @@ fn make_text<K: Sink>(alloc: Global, text: &[u8], sink: &mut K) -> u8
 /// written; 9, the text is no description, and `line N` was written, its first bad line; 12, the input is too long; 3, a read
 /// failed; 4, a write failed; 1, memory ran out. After 1, 3 and 12 nothing was written, after 4 a front of what 0 or 9 writes.
 pub fn make_input<S: Source, K: Sink>(alloc: Global, source: &mut S, sink: &mut K) -> u8
-    // What was read, what comes of it, and what was written of that.
-    ensures answers { Answers ComesOfText result (source_told S.Source source.old) (source_told S.Source source.new) (sink_told K.Sink sink.old) (sink_told K.Sink sink.new) }
-    // 0 comes only of a description, and then the sink took its file.
-    ensures made { MakesOnly result (source_told S.Source source.old) (source_told S.Source source.new) (sink_told K.Sink sink.old) (sink_told K.Sink sink.new) }
-    // A read that failed is told by 3, and a write that failed by 4.
-    ensures failures { TellsFailures result (source_told S.Source source.old) (source_told S.Source source.new) (sink_told K.Sink sink.old) (sink_told K.Sink sink.new) }
-    // Nothing is read after the end of the input, nor after a read that failed.
-    ensures once { ReadsToEnd (S.how_far source.old) (S.how_far source.new) }
-    // It comes always of a description, unless something outside failed or memory ran out.
-    ensures complete { MakesThrough result (source_told S.Source source.old) (source_told S.Source source.new) (sink_told K.Sink sink.old) (sink_told K.Sink sink.new) }
+    // 0 comes only of a description, and then the sink took its file. It comes always of a description, unless something outside failed or
+    // memory ran out.
+    ensures { MakesInput result (gave S.Source source.old source.new) (took K.Sink sink.old sink.new) }
 {
     match read_input(alloc, source) {
         Ok(text) => make_text(alloc, text.bytes(), sink),

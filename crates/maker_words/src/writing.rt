@@ -1,7 +1,7 @@
 //! The statuses, and what is written with them.
 
-ghost use Rattle.std.specs.Prelude.{◌≡◌, ◌≢◌, ◌⊎◌};
-ghost use Rattle.maker_words.specs.Answers.{Writes, sink_told};
+ghost use Rattle.std.specs.Prelude.{◌≡◌, ◌⊎◌};
+ghost use Rattle.maker_words.specs.Answers.{PutsBytes, took};
 ghost use Rattle.maker_words.specs.Inputs.{status_of};
 
 use crate::inputs::InputFault;
@@ -45,8 +45,7 @@ pub(crate) fn status_of(fault: InputFault) -> u8
 /// Writes the bytes whole, and answers this status; or that the sink failed.
 pub(crate) fn write_with<K: Sink>(answer: u8, bytes: &[u8], sink: &mut K) -> u8
     requires { (answer ≡ 0) ⊎ (answer ≡ 9) }
-    ensures written { Writes answer bytes.now result (sink_told K.Sink sink.old) (sink_told K.Sink sink.new) }
-    ensures calm { (result ≢ 4) → K.faults sink.new ≡ K.faults sink.old }
+    ensures { PutsBytes answer bytes.now result (took K.Sink sink.old sink.new) }
 {
     match sink.write(bytes) {
         Ok(()) => answer,
