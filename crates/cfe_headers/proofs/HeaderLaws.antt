@@ -7,6 +7,7 @@ use Rattle.std.proofs.lemmas.Bool.{ltb-false, le-ltb, eqb-true}
 use Rattle.tbl_kinds.specs.Fields.{AreBytes}
 use Rattle.tbl_kinds.specs.Numbers.{four, four_at}
 use Rattle.tbl_kinds.specs.Headers.{Header, IsHeader, short_header, other_content, content_type, file_header, header_flaw, header_in}
+use Rattle.cfe_headers.specs.Readings.{ReadsHeader, BeginsWithHeader}
 use Rattle.cfe_headers.proofs.Chains.{passed, not_false}
 use Rattle.cfe_headers.proofs.Pieces.{four_below, split_four, split_piece, length-piece}
 
@@ -16,7 +17,7 @@ pub length-file_header : (h : Header) → IsHeader h → length (file_header h) 
 unfolding file_header
 length-file_header h is = omega (arith, is.description_fills)
 
-pub accepted : (h : Header) (more : List ℕ) → IsHeader h → header_flaw (file_header h ++ more) ≡ None
+accepted : (h : Header) (more : List ℕ) → IsHeader h → header_flaw (file_header h ++ more) ≡ None
 unfolding file_header
 accepted h more is =
     let long : ltb (length (file_header h ++ more)) 64 ≡ false = le-ltb (length (file_header h ++ more)) 64 (omega (arith, is.description_fills, length-append h.description more)) in
@@ -26,7 +27,7 @@ pub content_of : (h : Header) (more : List ℕ) → four_at 0 (file_header h ++ 
 unfolding file_header
 content_of h more = refl
 
-pub same : (h : Header) (more : List ℕ) → IsHeader h → header_in (file_header h ++ more) ≡ h
+same : (h : Header) (more : List ℕ) → IsHeader h → header_in (file_header h ++ more) ≡ h
 unfolding file_header
 same h more is =
     rw (
@@ -39,6 +40,9 @@ same h more is =
       from_be_bytes-to_be_bytes_4 h.sub is.sub_fits,
       take_at h.description more 32 is.description_fills,
     ) refl
+
+pub reads : (h : Header) (more : List ℕ) → IsHeader h → ReadsHeader h more
+reads h more is = record { accepted = accepted h more is; same = same h more is }
 
 -- ---- headers that are read
 
@@ -55,7 +59,7 @@ passes bytes none =
       content = eqb-true (four_at 0 bytes) content_type (not_false _ b.0);
     }
 
-pub is_header : (bytes : List ℕ) → AreBytes bytes → header_flaw bytes ≡ None → IsHeader (header_in bytes)
+is_header : (bytes : List ℕ) → AreBytes bytes → header_flaw bytes ≡ None → IsHeader (header_in bytes)
 is_header bytes fits none =
     let p = passes bytes none in
     record {
@@ -69,7 +73,7 @@ is_header bytes fits none =
       description_fills = length-piece 32 32 bytes p.long;
     }
 
-pub spelled : (bytes : List ℕ) → AreBytes bytes → header_flaw bytes ≡ None → bytes ≡ file_header (header_in bytes) ++ drop 64 bytes
+spelled : (bytes : List ℕ) → AreBytes bytes → header_flaw bytes ≡ None → bytes ≡ file_header (header_in bytes) ++ drop 64 bytes
 unfolding file_header
 spelled bytes fits none =
     let p = passes bytes none in
@@ -84,3 +88,6 @@ spelled bytes fits none =
     let s8 = next 8 (lit≤ tt) ∙ before (four_at 8 bytes) _ _ s12 in
     let s4 = next 4 (lit≤ tt) ∙ before (four_at 4 bytes) _ _ s8 in
     s0 ∙ before content_type _ _ s4
+
+pub begins : (bytes : List ℕ) → AreBytes bytes → header_flaw bytes ≡ None → BeginsWithHeader bytes
+begins bytes fits none = record { is_header = is_header bytes fits none; spelled = spelled bytes fits none }

@@ -10,6 +10,7 @@ use Rattle.std.proofs.lemmas.Bool.{ltb-false, le-ltb, eqb-true}
 use Rattle.tbl_kinds.specs.Fields.{AreBytes}
 use Rattle.tbl_kinds.specs.Numbers.{two, byte_at, two_at}
 use Rattle.tbl_kinds.specs.Packets.{IsCommandPacket, short, bad_length, bad_check, primary_header, command_packet, checksum, packet_flaw, packet_id, packet_code, packet_payload}
+use Rattle.cfe_headers.specs.Readings.{ReadsPacket}
 use Rattle.cfe_headers.proofs.Chains.{passed, not_false}
 use Rattle.cfe_headers.proofs.Pieces.{two_below, split_two, split_byte, and_then}
 
@@ -130,3 +131,8 @@ only bytes fits none =
       payload_fits = omega (arith, two_below 4 bytes fits, c-is);
       checked = p.checked;
     }
+
+pub reads : (bytes : List ℕ) (id code : ℕ) (payload : List ℕ) → IsCommandPacket bytes id code payload → ReadsPacket bytes id code payload
+reads bytes id code payload is =
+    let s = packet_stands bytes id code payload is in
+    record { accepted = accepted bytes id code payload is; id_is = s.id_is; code_is = s.code_is; payload_is = s.payload_is }

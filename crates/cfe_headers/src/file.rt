@@ -1,9 +1,11 @@
 //! The header that cFE puts in front of its files.
 
-ghost use Rattle.std.specs.Prelude.{◌≡◌, ◌+◌, ◌≤◌, ◌++◌, None, Some, length, IfErr, IfOk, OnOk};
-ghost use Rattle.tbl_kinds.specs.Numbers.{four, piece};
-ghost use Rattle.tbl_kinds.specs.Headers.{file_header, header_flaw, header_in, header_len};
-ghost use Rattle.cfe_headers.specs.FileHeaders.{header_of, header_flaw_of};
+ghost use Rattle.std.specs.Prelude.{◌≡◌, ◌≤◌, ◌++◌, length};
+ghost use Rattle.tbl_kinds.specs.Numbers.{four};
+ghost use Rattle.tbl_kinds.specs.Headers.{file_header, header_len};
+ghost use Rattle.cfe_headers.specs.Appends.{Appends};
+ghost use Rattle.cfe_headers.specs.FileHeaders.{header_of};
+ghost use Rattle.cfe_headers.specs.Readings.{GivesHeader};
 
 use tbl_kinds::{Bytes, u32_at};
 use thiserror::Error;
@@ -46,21 +48,9 @@ pub enum HeaderFault {
     BadContent,
 }
 
-/// The description field of a header.
-fn description_of(bytes: &[u8]) -> [u8; 32]
-    requires { header_len ≤ length bytes.now }
-    ensures { result ≡ piece 32 32 bytes.now }
-{
-    let mut description = [0; 32];
-    description.copy_from_slice(&bytes[32..HEADER_LENGTH]);
-    description
-}
-
 /// Reads the header at the front of a file. Of its fields the content type alone is tested.
 pub fn read_file_header(bytes: &[u8]) -> Result<FileHeader, HeaderFault>
-    ensures ok { OnOk result (header_flaw bytes.now ≡ None) }
-    ensures err { IfErr result (λ fault. header_flaw bytes.now ≡ Some (header_flaw_of fault)) }
-    ensures header { IfOk result (λ header. header_of header ≡ header_in bytes.now) }
+    ensures { GivesHeader bytes.now result }
 {
     if bytes.len() < HEADER_LENGTH {
         return Err(HeaderFault::Short);
@@ -68,6 +58,8 @@ pub fn read_file_header(bytes: &[u8]) -> Result<FileHeader, HeaderFault>
     if u32_at(bytes, 0) != CONTENT_TYPE {
         return Err(HeaderFault::BadContent);
     }
+    let mut description = [0; 32];
+    description.copy_from_slice(&bytes[32..HEADER_LENGTH]);
     Ok(FileHeader {
         subtype: u32_at(bytes, 4),
         length: u32_at(bytes, 8),
@@ -76,7 +68,7 @@ pub fn read_file_header(bytes: &[u8]) -> Result<FileHeader, HeaderFault>
         application: u32_at(bytes, 20),
         seconds: u32_at(bytes, 24),
         sub: u32_at(bytes, 28),
-        description: description_of(bytes),
+        description,
     })
 }
 
@@ -124,9 +116,7 @@ pub fn fill_file_header(out: &mut [u8], header: &FileHeader)
 /// Appends a file header, 64 bytes.
 pub fn write_file_header(out: &mut Bytes, header: &FileHeader)
     requires { header_len ≤ out.old.spare }
-    ensures bytes { out.new.list ≡ out.old.list ++ file_header (header_of header.now) }
-    ensures room { out.old.spare ≤ out.new.spare + header_len }
-    ensures len { length out.new.list ≡ length out.old.list + header_len }
+    ensures { Appends (file_header (header_of header.now)) header_len out.old out.new }
 {
     let mut bytes = [0; HEADER_LENGTH];
     fill_file_header(&mut bytes, header);

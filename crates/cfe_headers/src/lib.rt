@@ -2,13 +2,10 @@
 //! they are whole, with the first flaw named else, and each packet and header is written in its one spelling.
 #![tactic(auto)]
 
-mod command;
 mod file;
 mod laws;
-mod primary;
-mod telemetry;
+mod packets;
 
-pub use command::{CmdPacket, PacketFault, read_packet, write_cmd};
 pub use file::{
     FileHeader, HEADER_LENGTH, HeaderFault, fill_file_header, read_file_header, write_file_header,
 };
@@ -16,4 +13,6 @@ pub use laws::{
     command_packets_are_read, what_is_read_is_a_command_packet, what_is_read_is_a_header,
     written_commands_are_command_packets, written_headers_are_read,
 };
-pub use telemetry::{TLM_FRONT_LENGTH, fill_tlm_front, write_tlm};
+pub use packets::{
+    CmdPacket, PacketFault, TLM_FRONT_LENGTH, fill_tlm_front, read_packet, write_cmd, write_tlm,
+};

@@ -1,5 +1,5 @@
 -- Table files are read exactly, and written ones are table files.
-use Rattle.std.proofs.Common.{◌≡◌, ℕ, ◌+◌, ◌^◌, ◌<◌, true, false, not, ltb, List, ◌++◌, length, drop, None, refl, sym, ap, ◌∙◌, append_assoc, eq-eqb, arith}
+use Rattle.std.proofs.Common.{◌≡◌, ℕ, ◌+◌, ◌^◌, ◌<◌, true, false, not, ltb, List, ◌++◌, length, drop, None, refl, sym, ap, ◌∙◌, append_assoc, eq-eqb, arith, [], ◌⊎◌, inl, inr}
 use Rattle.std.specs.Prelude.{◌==◌, nat_lt}
 use Rattle.std.proofs.lemmas.List.{length-append, length-drop, drop_at}
 use Rattle.std.proofs.lemmas.Nat.{from_be_bytes-to_be_bytes_4}
@@ -11,6 +11,7 @@ use Rattle.tbl_kinds.specs.Names.{name_in, name_field}
 use Rattle.tbl_kinds.specs.Headers.{Header, IsHeader, content_type, file_header, header_flaw, header_in}
 use Rattle.tbl_kinds.specs.Admitted.{Admitted, Admits, is_admitted, all_admitted}
 use Rattle.tbl_kinds.specs.TableFiles.{TableFile, IsWritable, IsTableFile, no_std_header, bad_content, bad_subtype, bad_spacecraft, bad_processor, no_table_header, incomplete, too_big, table_subtype, file_with, table_file, file_flaw, table_file_in, spacecraft_in, processor_in, stated_count}
+use Rattle.table_files.specs.Readings.{IsReadAs, AreAlike, TellTheSame}
 use Rattle.cfe_headers.proofs.Chains.{passed, not_false}
 use Rattle.cfe_headers.proofs.Pieces.{four_below, split_piece, split_four, length-piece, piece_behind}
 use Rattle.cfe_headers.proofs.NameFields.{reads-name_field}
@@ -56,9 +57,9 @@ stands header reserved offset field image is subtype reserved-len field-len offs
     record {
       len = ap length d-is ∙ length-append d image ∙ ap (λ (k : ℕ). k + n) d-len;
       content = headers.content_of header more;
-      subtype = ap (λ (x : Header). x.subtype) (headers.same header more is) ∙ subtype;
-      spacecraft = ap (λ (x : Header). x.spacecraft) (headers.same header more is);
-      processor = ap (λ (x : Header). x.processor) (headers.same header more is);
+      subtype = ap (λ (x : Header). x.subtype) (headers.reads header more is).same ∙ subtype;
+      spacecraft = ap (λ (x : Header). x.spacecraft) (headers.reads header more is).same;
+      processor = ap (λ (x : Header). x.processor) (headers.reads header more is).same;
       offset_is = number_behind a (four n ++ (field ++ image)) (h ++ more) 68 offset a-len offset-fits a-is;
       stated = number_behind b (field ++ image) (h ++ more) 72 n b-len image-fits b-is;
       field_is = ap (piece 76 40) c-is ∙ piece_behind c field image 76 40 c-len field-len;
@@ -86,6 +87,9 @@ pub same : (admit : Admitted) (bytes : List ℕ) (file : TableFile) → IsTableF
 same admit bytes file is =
     let s = file_stands admit bytes file is in
     rw (s.offset_is, s.field_is, is.name.reads, s.image_is) refl
+
+pub reads : (admit : Admitted) (bytes : List ℕ) (file : TableFile) → IsTableFile admit bytes file → IsReadAs admit file bytes
+reads admit bytes file is = record { accepted = accepted admit bytes file is; same = same admit bytes file is }
 
 -- ---- nothing else is read
 
@@ -120,6 +124,7 @@ pub only : (admit : Admitted) (bytes : List ℕ) → AreBytes bytes → file_fla
 unfolding file_with
 only admit bytes fits none =
     let p = passes admit bytes none in
+    let begins = headers.begins bytes fits p.header in
     let count-is : stated_count bytes ≡ length (drop 116 bytes) = omega (arith, p.len, length-drop 116 bytes) in
     let s76 : drop 76 bytes ≡ piece 76 40 bytes ++ drop 116 bytes = split_piece 76 40 bytes in
     let s72 : drop 72 bytes ≡ four (length (drop 116 bytes)) ++ (piece 76 40 bytes ++ drop 116 bytes) =
@@ -131,8 +136,8 @@ only admit bytes fits none =
       header = header_in bytes;
       reserved = piece 64 4 bytes;
       field = piece 76 40 bytes;
-      parts = headers.spelled bytes fits p.header ∙ ap (λ (s : List ℕ). file_header (header_in bytes) ++ s) s64;
-      is_header = headers.is_header bytes fits p.header;
+      parts = begins.spelled ∙ ap (λ (s : List ℕ). file_header (header_in bytes) ++ s) s64;
+      is_header = begins.is_header;
       subtype = p.subtype;
       admitted = record { spacecraft = p.spacecraft; processor = p.processor };
       reserved_len = length-piece 64 4 bytes (omega (arith, p.len));
@@ -163,12 +168,13 @@ length-table_file header file is = (file_stands all_admitted (table_file header 
 
 -- ---- what isn't looked at
 
-pub same_flaw : (admit : Admitted) (a b : List ℕ) → length a ≡ length b → four_at 0 a ≡ four_at 0 b → four_at 4 a ≡ four_at 4 b → spacecraft_in a ≡ spacecraft_in b → processor_in a ≡ processor_in b
-    → stated_count a ≡ stated_count b → file_flaw admit a ≡ file_flaw admit b
-same_flaw admit a b len content subtype spacecraft processor stated = rw (len, content, subtype, spacecraft, processor, stated) refl
+pub same_flaw : (admit : Admitted) (a b : List ℕ) → AreAlike admit a b → file_flaw admit a ≡ file_flaw admit b
+same_flaw admit a b alike = by_lists alike.spacecraft alike.processor where
+  by_lists : (admit.spacecraft ≡ []) ⊎ (spacecraft_in a ≡ spacecraft_in b) → (admit.processor ≡ []) ⊎ (processor_in a ≡ processor_in b) → file_flaw admit a ≡ file_flaw admit b
+  by_lists (inl none) (inl nil) = rw (alike.len, alike.content, alike.subtype, none, nil, alike.count) refl
+  by_lists (inl none) (inr processor) = rw (alike.len, alike.content, alike.subtype, none, processor, alike.count) refl
+  by_lists (inr spacecraft) (inl nil) = rw (alike.len, alike.content, alike.subtype, spacecraft, nil, alike.count) refl
+  by_lists (inr spacecraft) (inr processor) = rw (alike.len, alike.content, alike.subtype, spacecraft, processor, alike.count) refl
 
-pub same_where_all_are : (a b : List ℕ) → length a ≡ length b → four_at 0 a ≡ four_at 0 b → four_at 4 a ≡ four_at 4 b → stated_count a ≡ stated_count b → file_flaw all_admitted a ≡ file_flaw all_admitted b
-same_where_all_are a b len content subtype stated = rw (len, content, subtype, stated) refl
-
-pub same_file : (a b : List ℕ) → four_at 68 a ≡ four_at 68 b → name_in (piece 76 40 a) ≡ name_in (piece 76 40 b) → drop 116 a ≡ drop 116 b → table_file_in a ≡ table_file_in b
-same_file a b offset name image = rw (offset, name, image) refl
+pub same_file : (a b : List ℕ) → TellTheSame a b → table_file_in a ≡ table_file_in b
+same_file a b told = rw (told.offset, told.name, told.image) refl

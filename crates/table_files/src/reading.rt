@@ -1,10 +1,9 @@
 //! Reading a table file.
 
-ghost use Rattle.std.specs.Prelude.{◌≡◌, ◌+◌, ◌≤◌, None, Some, length, drop, IfErr, IfOk, OnOk};
-ghost use Rattle.tbl_kinds.specs.Numbers.{piece};
-ghost use Rattle.tbl_kinds.specs.Names.{name_in};
-ghost use Rattle.tbl_kinds.specs.TableFiles.{file_flaw, file_status, file_detail, table_file_in, image_place};
-ghost use Rattle.table_files.specs.Files.{flaw_of, with_image};
+ghost use Rattle.std.specs.Prelude.{◌≡◌};
+ghost use Rattle.tbl_kinds.specs.TableFiles.{file_status, file_detail};
+ghost use Rattle.table_files.specs.Files.{flaw_of};
+ghost use Rattle.table_files.specs.Readings.{GivesFile};
 
 use cfe_headers::{HeaderFault, read_file_header};
 use tbl_kinds::{Admit, Answer, Name, Name40, Status, u32_at};
@@ -59,50 +58,22 @@ pub enum FileFault {
 }
 
 impl FileFault {
-    /// The status that refuses a load from such a file.
-    pub fn status(self) -> Status
-        ensures { result ≡ file_status (flaw_of self) }
-    {
-        match self {
-            FileFault::NoStdHeader => Status::ERR_NO_STD_HEADER,
-            FileFault::BadContent => Status::ERR_BAD_CONTENT_ID,
-            FileFault::BadSubtype => Status::ERR_BAD_SUBTYPE_ID,
-            FileFault::BadSpacecraft(_) => Status::ERR_BAD_SPACECRAFT_ID,
-            FileFault::BadProcessor(_) => Status::ERR_BAD_PROCESSOR_ID,
-            FileFault::NoTableHeader => Status::ERR_NO_TBL_HEADER,
-            FileFault::Incomplete => Status::ERR_LOAD_INCOMPLETE,
-            FileFault::TooBig => Status::ERR_FILE_TOO_LARGE,
-        }
-    }
-
-    /// The detail of that refusal: an identifier that isn't admitted.
-    pub fn detail(self) -> u32
-        ensures { result ≡ file_detail (flaw_of self) }
-    {
-        match self {
-            FileFault::BadSpacecraft(id) | FileFault::BadProcessor(id) => id,
-            _ => 0,
-        }
-    }
-
-    /// How a load from such a file is answered.
+    /// How a load from such a file is refused: the status, and an identifier that isn't admitted as the detail.
     pub fn answer(self) -> Answer
-        ensures status { result.status ≡ file_status (flaw_of self) }
-        ensures detail { result.detail ≡ file_detail (flaw_of self) }
+        ensures { result ≡ record { status = file_status (flaw_of self); detail = file_detail (flaw_of self) } }
     {
-        Answer {
-            status: self.status(),
-            detail: self.detail(),
-        }
+        let (status, detail) = match self {
+            FileFault::NoStdHeader => (Status::ERR_NO_STD_HEADER, 0),
+            FileFault::BadContent => (Status::ERR_BAD_CONTENT_ID, 0),
+            FileFault::BadSubtype => (Status::ERR_BAD_SUBTYPE_ID, 0),
+            FileFault::BadSpacecraft(id) => (Status::ERR_BAD_SPACECRAFT_ID, id),
+            FileFault::BadProcessor(id) => (Status::ERR_BAD_PROCESSOR_ID, id),
+            FileFault::NoTableHeader => (Status::ERR_NO_TBL_HEADER, 0),
+            FileFault::Incomplete => (Status::ERR_LOAD_INCOMPLETE, 0),
+            FileFault::TooBig => (Status::ERR_FILE_TOO_LARGE, 0),
+        };
+        Answer { status, detail }
     }
-}
-
-/// The table's full name.
-fn name_of(bytes: &[u8]) -> Name40
-    requires { image_place ≤ length bytes.now }
-    ensures { result ≡ name_in (piece 76 40 bytes.now) }
-{
-    Name::of(&bytes[76..IMAGE_PLACE])
 }
 
 /// Reads a table file, all of the bytes: the file header (cFE's `CFE_FS_Header_t`, cfe_fs_extern_typedefs.h), the table
@@ -111,11 +82,7 @@ fn name_of(bytes: &[u8]) -> Name40
 /// those that are admitted; the rest of it, the reserved bytes and what stands in the name field after the name's zero are
 /// not looked at.
 pub fn read_table_file(bytes: &[u8], admit: &Admit) -> Result<TableFile, FileFault>
-    ensures ok { OnOk result (file_flaw admit.now bytes.now ≡ None) }
-    ensures err { IfErr result (λ fault. file_flaw admit.now bytes.now ≡ Some (flaw_of fault)) }
-
-    ensures file { IfOk result (λ file. with_image file (drop image_place bytes.now) ≡ table_file_in bytes.now) }
-    ensures count { IfOk result (λ file. image_place + file.count ≡ length bytes.now) }
+    ensures { GivesFile admit.now bytes.now result }
 {
     let header = match read_file_header(bytes) {
         Ok(header) => header,
@@ -145,6 +112,6 @@ pub fn read_table_file(bytes: &[u8], admit: &Admit) -> Result<TableFile, FileFau
     Ok(TableFile {
         offset: u32_at(bytes, 68),
         count,
-        name: name_of(bytes),
+        name: Name::of(&bytes[76..IMAGE_PLACE]),
     })
 }

@@ -5,9 +5,10 @@ ghost use Rattle.tbl_kinds.specs.Names.{name_field};
 ghost use Rattle.tbl_kinds.specs.Numbers.{four};
 ghost use Rattle.tbl_kinds.specs.Records.{FitsField};
 ghost use Rattle.tbl_kinds.specs.Headers.{IsHeader};
-ghost use Rattle.tbl_kinds.specs.TableFiles.{IsWritable, table_file, table_subtype, image_place};
+ghost use Rattle.tbl_kinds.specs.TableFiles.{table_subtype, image_place};
 ghost use Rattle.cfe_headers.specs.FileHeaders.{header_of};
 ghost use Rattle.table_files.specs.Files.{with_image};
+ghost use Rattle.table_files.specs.Readings.{AppendsFile};
 
 use crate::reading::{IMAGE_PLACE, TableFile};
 use cfe_headers::{FileHeader, HEADER_LENGTH, fill_file_header};
@@ -57,12 +58,7 @@ pub fn write_image_file(
     requires room { image_place + length image.now ≤ out.old.spare }
     requires subtype { header.now.subtype ≡ table_subtype }
     requires count { length image.now < 2 ^ 32 }
-    ensures bytes { out.new.list ≡ out.old.list ++ table_file (header_of header.now) (record { offset = offset; name = name.now; image = image.now }) }
-    ensures room { out.old.spare ≤ out.new.spare + (image_place + length image.now) }
-    ensures len { length out.new.list ≡ length out.old.list + (image_place + length image.now) }
-
-    // So it is read again as this value.
-    ensures writable { IsWritable (header_of header.now) (record { offset = offset; name = name.now; image = image.now }) }
+    ensures { AppendsFile (header_of header.now) (record { offset = offset; name = name.now; image = image.now }) out.old out.new }
 {
     every_header_fits(header);
     let mut headers = [0; IMAGE_PLACE];
@@ -81,12 +77,7 @@ pub fn write_table_file(out: &mut Bytes, header: &FileHeader, file: &TableFile, 
     requires room { image_place + length image.now ≤ out.old.spare }
     requires subtype { header.now.subtype ≡ table_subtype }
     requires count { file.now.count ≡ length image.now }
-    ensures bytes { out.new.list ≡ out.old.list ++ table_file (header_of header.now) (with_image file.now image.now) }
-    ensures room { out.old.spare ≤ out.new.spare + (image_place + length image.now) }
-    ensures len { length out.new.list ≡ length out.old.list + (image_place + length image.now) }
-
-    // So it is read again as this value.
-    ensures writable { IsWritable (header_of header.now) (with_image file.now image.now) }
+    ensures { AppendsFile (header_of header.now) (with_image file.now image.now) out.old out.new }
 {
     let _count = file.count;
     write_image_file(out, header, file.offset, &file.name, image);

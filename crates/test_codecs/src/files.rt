@@ -59,9 +59,10 @@ fn tell_file_under(line: &mut Line, bytes: &[u8], admit: &Admit) {
         }
         Err(fault) => {
             line.shown(&fault);
-            line.number(fault.status().0);
-            if fault.detail() != 0 {
-                line.number(fault.detail());
+            let answer = fault.answer();
+            line.number(answer.status.0);
+            if answer.detail != 0 {
+                line.number(answer.detail);
             }
         }
     }

@@ -1,7 +1,7 @@
 use Rattle.std.proofs.Common.{◌≡◌, ℕ, List, ap, ◌∙◌, bit_xor, rules}
 use Rattle.std.specs.List.{fold}
 use Rattle.cfe_headers.proofs.Words.{with_eight, of_word, whole}
-use Rattle.cfe_headers.proofs.command.checksum_from.Goals as goal
+use Rattle.cfe_headers.proofs.packets.checksum_from.Goals as goal
 
 pub returns : goal.returns
 returns c =
