@@ -1,5 +1,5 @@
 -- Every packet of a command is read as that command.
-use Rattle.std.proofs.Common.{◌≡◌, ℕ, ◌≤◌, true, List, ◌++◌, length, take, Option, Some, None, Ok, refl, sym, ap, ◌∙◌, eq-eqb, arith}
+use Rattle.std.proofs.Common.{◌≡◌, ℕ, ◌≤◌, true, List, ◌++◌, length, take, Option, Some, None, Ok, refl, sym, ap, ◌∙◌, eq-eqb, arith, ◌⊎◌, inl, inr}
 use Rattle.std.specs.Prelude.{IsTrue, IfSome, slice_get}
 use Rattle.std.proofs.lemmas.List.{length-append, take_at, drop_at, append-nil}
 use Rattle.std.proofs.lemmas.Nat.{from_be_bytes-to_be_bytes_2}
@@ -9,6 +9,7 @@ use Rattle.tbl_kinds.specs.Numbers.{two, two_at}
 use Rattle.tbl_kinds.specs.Names.{is_name, name_in}
 use Rattle.tbl_kinds.specs.Packets.{PacketFlaw, packet_flaw, packet_id, packet_code, packet_payload, command_id, housekeeping_request_id}
 use Rattle.tbl_kinds.specs.GroundCommands.{GroundCommand, housekeeping, noop, reset_counters, load, dump, validate, activate, dump_registry, send_registry, delete_cds, abort, Form, forms, housekeeping_form, name_at, select_of, table_of, file_of, is_named, with_names, by_form, by_id, by_flaw, command_in, id_of, code_of, select_field, IsGroundCommand, ReadsAsOption, SpellsCommand}
+use Rattle.cmd_packets.specs.Alike.{AreAlike}
 use Rattle.cfe_headers.proofs.PacketLaws as packets
 
 -- ---- the forms of payloads
@@ -108,29 +109,21 @@ commands_are_read bytes command s =
 
 -- ---- what isn't looked at
 
-same_parts : (flaw : Option PacketFlaw) (a b : List ℕ) → packet_id a ≡ packet_id b → packet_code a ≡ packet_code b → packet_payload a ≡ packet_payload b → by_flaw flaw a ≡ by_flaw flaw b
+same_parts : (flaw : Option PacketFlaw) (a b : List ℕ) → packet_id a ≡ packet_id b → (packet_id b ≡ housekeeping_request_id) ⊎ (packet_code a ≡ packet_code b) → packet_payload a ≡ packet_payload b
+    → by_flaw flaw a ≡ by_flaw flaw b
 same_parts (Some flaw) a b id code payload = refl
-same_parts None a b id code payload =
+same_parts None a b id (inl request) payload =
+    ap (λ (n : ℕ). by_id n (packet_code a) (packet_payload a)) (id ∙ request)
+    ∙ ap (λ (x : List ℕ). by_form housekeeping_form x) payload
+    ∙ sym (ap (λ (n : ℕ). by_id n (packet_code b) (packet_payload b)) request)
+same_parts None a b id (inr code) payload =
     ap (λ (n : ℕ). by_id n (packet_code a) (packet_payload a)) id
     ∙ ap (λ (n : ℕ). by_id (packet_id b) n (packet_payload a)) code
     ∙ ap (λ (x : List ℕ). by_id (packet_id b) (packet_code b) x) payload
 
-same_request_parts : (flaw : Option PacketFlaw) (a b : List ℕ) → packet_id a ≡ housekeeping_request_id → packet_id b ≡ housekeeping_request_id → packet_payload a ≡ packet_payload b → by_flaw flaw a ≡ by_flaw flaw b
-same_request_parts (Some flaw) a b id-a id-b payload = refl
-same_request_parts None a b id-a id-b payload =
-    ap (λ (n : ℕ). by_id n (packet_code a) (packet_payload a)) id-a
-    ∙ ap (λ (x : List ℕ). by_form housekeeping_form x) payload
-    ∙ sym (ap (λ (n : ℕ). by_id n (packet_code b) (packet_payload b)) id-b)
-
-pub same_packet : (a b : List ℕ) → packet_flaw a ≡ packet_flaw b → packet_id a ≡ packet_id b → packet_code a ≡ packet_code b → packet_payload a ≡ packet_payload b → command_in a ≡ command_in b
+pub same_packet : (a b : List ℕ) → AreAlike a b → command_in a ≡ command_in b
 unfolding command_in
-same_packet a b flaw id code payload =
-    ap (λ (x : Option PacketFlaw). by_flaw x a) flaw ∙ same_parts (packet_flaw b) a b id code payload
-
-pub same_request : (a b : List ℕ) → packet_flaw a ≡ packet_flaw b → packet_id a ≡ housekeeping_request_id → packet_id b ≡ housekeeping_request_id → packet_payload a ≡ packet_payload b → command_in a ≡ command_in b
-unfolding command_in
-same_request a b flaw id-a id-b payload =
-    ap (λ (x : Option PacketFlaw). by_flaw x a) flaw ∙ same_request_parts (packet_flaw b) a b id-a id-b payload
+same_packet a b alike = ap (λ (x : Option PacketFlaw). by_flaw x a) alike.flaw ∙ same_parts (packet_flaw b) a b alike.id alike.code alike.payload
 
 pub same_payload : (form : Form) (a b : List ℕ) → length a ≡ length b → form.reads a ≡ form.reads b → by_form form a ≡ by_form form b
 same_payload form a b len reads = rw (len, reads) refl

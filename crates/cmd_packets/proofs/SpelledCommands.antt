@@ -16,6 +16,7 @@ use Rattle.cfe_headers.proofs.Pieces.{two_below, split_two, split_piece, length-
 use Rattle.cfe_headers.proofs.NameFields.{reads-name_field}
 use Rattle.cfe_headers.proofs.PacketLaws as packets
 use Rattle.tbl_kinds.proofs.Names.{printable_no_zero}
+use Rattle.cmd_packets.specs.Alike.{IsReadAs}
 use Rattle.cmd_packets.proofs.ReadCommands.{form_alone, form_named, form_dump, form_validate, Fields, commands_are_read}
 
 abbrev Read : Type 0
@@ -219,7 +220,7 @@ code_below (send_registry table) = omega arith
 code_below (delete_cds table) = omega arith
 code_below (abort table) = omega arith
 
-pub written_spells : (count : ℕ) (command : GroundCommand) → IsGroundCommand command → SpellsCommand (command_bytes count command) command
+written_spells : (count : ℕ) (command : GroundCommand) → IsGroundCommand command → SpellsCommand (command_bytes count command) command
 written_spells count command is =
     let select : List ℕ = select_field (select_of command) in
     let table : List ℕ = written_field 40 (table_of command) in
@@ -244,5 +245,7 @@ written_spells count command is =
       is_command = is;
     }
 
-pub written : (count : ℕ) (command : GroundCommand) → IsGroundCommand command → command_in (command_bytes count command) ≡ Ok command
-written count command is = commands_are_read (command_bytes count command) command (written_spells count command is)
+pub written : (count : ℕ) (command : GroundCommand) → IsGroundCommand command → IsReadAs command (command_bytes count command)
+written count command is =
+    let spells = written_spells count command is in
+    record { is_packet = spells; same = commands_are_read (command_bytes count command) command spells }

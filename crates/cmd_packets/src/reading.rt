@@ -1,15 +1,14 @@
 //! Reading a command.
 
-ghost use Rattle.std.specs.Prelude.{◌≡◌, ◌+◌, ◌<◌, ◌≤◌, Some, Ok, Err, length, slice_get, IfOk, IfErr, IfSome, IfNone};
+ghost use Rattle.std.specs.Prelude.{◌≡◌, ◌==◌, ◌+◌, ◌<◌, ◌≤◌, Some, Ok, length, slice_get, if◌then◌else◌};
 ghost use Rattle.std.specs.Option.{option_map};
-ghost use Rattle.tbl_kinds.specs.Numbers.{two_at};
-ghost use Rattle.tbl_kinds.specs.GroundCommands.{forms, payload_len as len_of, name_at, table_of, file_of, is_named, with_names as names_tested, by_form, by_code as by_code_lem, by_id, housekeeping_form, command_in};
+ghost use Rattle.tbl_kinds.specs.GroundCommands.{forms, payload_len as len_of, name_at, table_of, file_of, is_named, with_names as names_tested, by_form, by_code as by_code_lem, by_id, refused, command_in};
 ghost use Rattle.cmd_packets.specs.declared.commands.Ground.{Ground};
-ghost use Rattle.cmd_packets.specs.Views.{command_of, answer_of, Gives};
+ghost use Rattle.cmd_packets.specs.Views.{command_of, Gives};
 
 use crate::commands::{CmdFault, Ground};
 use cfe_headers::read_packet;
-use tbl_kinds::{Name, Name40, Name64, u16_at};
+use tbl_kinds::{Name, Status, u16_at};
 
 /// The message id of commands.
 const COMMAND_ID: u16 = 0x1804;
@@ -34,28 +33,13 @@ fn payload_len(code: u8) -> Option<usize>
     }
 }
 
-/// The number of the image in a payload that begins with it.
-fn select_of(payload: &[u8]) -> u16
-    requires { 2 ≤ length payload.now }
-    ensures { result ≡ two_at 0 payload.now }
+/// The name at a place of the payload.
+fn name_at<const WIDTH: usize>(payload: &[u8], place: usize) -> Name<WIDTH>
+    requires within { place + WIDTH ≤ length payload.now }
+    requires narrow { WIDTH < 256 }
+    ensures { result ≡ name_at place WIDTH payload.now }
 {
-    u16_at(payload, 0)
-}
-
-/// The table's name at a place of the payload.
-fn table_at(payload: &[u8], place: usize) -> Name40
-    requires { place + 40 ≤ length payload.now }
-    ensures { result ≡ name_at place 40 payload.now }
-{
-    Name::of(&payload[place..place + 40])
-}
-
-/// The file's name at a place of the payload.
-fn file_at(payload: &[u8], place: usize) -> Name64
-    requires { place + 64 ≤ length payload.now }
-    ensures { result ≡ name_at place 64 payload.now }
-{
-    Name::of(&payload[place..place + 64])
+    Name::of(&payload[place..place + WIDTH])
 }
 
 /// Puts what a payload of the right length reads as into its place, by the function code. Each command is made there: one that a
@@ -68,31 +52,31 @@ fn put_fields(code: u8, payload: &[u8], command: &mut Result<Ground, CmdFault>)
         0 => *command = Ok(Ground::Noop),
         1 => *command = Ok(Ground::ResetCounters),
         2 => *command = Ok(Ground::Load {
-            file: file_at(payload, 0),
+            file: name_at(payload, 0),
         }),
         3 => *command = Ok(Ground::Dump {
-            select: select_of(payload),
-            table: table_at(payload, 2),
-            file: file_at(payload, 42),
+            select: u16_at(payload, 0),
+            table: name_at(payload, 2),
+            file: name_at(payload, 42),
         }),
         4 => *command = Ok(Ground::Validate {
-            select: select_of(payload),
-            table: table_at(payload, 2),
+            select: u16_at(payload, 0),
+            table: name_at(payload, 2),
         }),
         5 => *command = Ok(Ground::Activate {
-            table: table_at(payload, 0),
+            table: name_at(payload, 0),
         }),
         6 => *command = Ok(Ground::DumpRegistry {
-            file: file_at(payload, 0),
+            file: name_at(payload, 0),
         }),
         7 => *command = Ok(Ground::SendRegistry {
-            table: table_at(payload, 0),
+            table: name_at(payload, 0),
         }),
         8 => *command = Ok(Ground::DeleteCds {
-            table: table_at(payload, 0),
+            table: name_at(payload, 0),
         }),
         9 => *command = Ok(Ground::Abort {
-            table: table_at(payload, 0),
+            table: name_at(payload, 0),
         }),
         _ => unreachable!(),
     }
@@ -125,27 +109,15 @@ fn is_file_named(command: &Ground) -> bool
     }
 }
 
-/// The fault of a command's names, if one of them isn't a name.
-fn name_fault(command: &Ground) -> Option<CmdFault>
-    ensures none { IfNone result (names_tested (command_of command.now) ≡ Ok (command_of command.now)) }
-    ensures some { IfSome result (λ fault. names_tested (command_of command.now) ≡ Err (answer_of fault)) }
-{
-    if !is_table_named(command) {
-        return Some(CmdFault::BadName(1));
-    }
-    if !is_file_named(command) {
-        return Some(CmdFault::BadName(2));
-    }
-    None
-}
-
-/// Puts the fault of a command's names, if there is one, into its place.
+/// Puts the fault of a command's names, if one of them isn't a name, into its place.
 fn test_names(command: &mut Result<Ground, CmdFault>)
     ensures { (read : Ground) → command.old ≡ Ok read → Gives command.new (names_tested (command_of read)) }
 {
     if let Ok(read) = command {
-        if let Some(fault) = name_fault(read) {
-            *command = Err(fault);
+        if !is_table_named(read) {
+            *command = Err(CmdFault::BadName(1));
+        } else if !is_file_named(read) {
+            *command = Err(CmdFault::BadName(2));
         }
     }
 }
@@ -170,25 +142,12 @@ fn read_by_form(code: u8, payload: &[u8], command: &mut Result<Ground, CmdFault>
 /// A command without a payload, or the fault that there is one.
 fn without_payload(command: Ground, payload: &[u8]) -> Result<Ground, CmdFault>
     requires { length payload.now ≤ 65534 }
-    ensures ok { IfOk result (λ own. (own ≡ command) × (length payload.now ≡ 0)) }
-    ensures err { IfErr result (λ fault. (fault ≡ CmdFault.BadLength (length payload.now)) × (0 < length payload.now)) }
+    ensures { Gives result (if length payload.now == 0 then Ok (command_of command) else refused Status.ERR_BAD_LENGTH (length payload.now)) }
 {
     if payload.is_empty() {
         Ok(command)
     } else {
         Err(CmdFault::BadLength(payload.len() as u32))
-    }
-}
-
-/// Reads the command of a function code with its payload.
-fn read_by_code(code: u8, payload: &[u8], command: &mut Result<Ground, CmdFault>)
-    requires { length payload.now ≤ 65534 }
-    ensures { Gives command.new (by_code_lem code (slice_get forms code) payload.now) }
-{
-    match code {
-        0 => *command = without_payload(Ground::Noop, payload),
-        1 => *command = without_payload(Ground::ResetCounters, payload),
-        _ => read_by_form(code, payload, command),
     }
 }
 
@@ -199,7 +158,11 @@ fn read_by_id(id: u16, code: u8, payload: &[u8], command: &mut Result<Ground, Cm
 {
     match id {
         HOUSEKEEPING_REQUEST_ID => *command = without_payload(Ground::Housekeeping, payload),
-        COMMAND_ID => read_by_code(code, payload, command),
+        COMMAND_ID => match code {
+            0 => *command = without_payload(Ground::Noop, payload),
+            1 => *command = without_payload(Ground::ResetCounters, payload),
+            _ => read_by_form(code, payload, command),
+        },
         _ => *command = Err(CmdFault::BadMessageId(id)),
     }
 }
