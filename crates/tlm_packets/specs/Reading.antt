@@ -1,5 +1,5 @@
 -- What readers test, and what they take from which place.
-use Rattle.std.specs.Prelude.{ℕ, ◌+◌, ◌==◌, List, length, drop, Bool, ◌&&◌, nat_le}
+use Rattle.std.specs.Prelude.{◌≡◌, ℕ, ◌+◌, ◌==◌, List, length, drop, Bool, ◌&&◌, nat_le, Option, Some, IfSome, is_some}
 use Rattle.std.specs.Int.{w32, cast_signed}
 use Rattle.tbl_kinds.specs.Numbers.{piece, byte_at, two_at, four_at}
 use Rattle.tbl_kinds.specs.Names.{name_in}
@@ -73,3 +73,15 @@ row_in body = record {
   owner = name_at 60 20 body;
   file = name_at 80 64 body;
 }
+
+-- ---- what readers answer
+
+-- this value where the test holds, and else none
+pub record GivesIf {V : Type 0} (test : Bool) (read : V) (result : Option V) : Type 0 where
+  pub is : is_some result ≡ test
+  pub value : IfSome result (λ v. v ≡ read)
+
+-- the value that the bytes spell, and none where they spell none
+pub record ReadsExactly {V : Type 0} (Spells : V → Type 0) (result : Option V) : Type 0 where
+  pub spelled : IfSome result Spells
+  pub again : (v : V) → Spells v → result ≡ Some v

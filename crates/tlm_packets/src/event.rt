@@ -1,8 +1,9 @@
 //! Event packets.
 
-ghost use Rattle.std.specs.Prelude.{◌≡◌, ◌+◌, ◌<◌, ◌≤◌, ◌++◌, length};
+ghost use Rattle.std.specs.Prelude.{◌≡◌, ◌<◌, ◌≤◌, length};
 ghost use Rattle.tbl_kinds.specs.Packets.{telemetry_packet, event_id};
 ghost use Rattle.tbl_kinds.specs.Telemetry.{event_body};
+ghost use Rattle.cfe_headers.specs.Appends.{Appends};
 
 use cfe_headers::{TLM_FRONT_LENGTH, fill_tlm_front};
 use tbl_kinds::{Bytes, Event, TlmHead};
@@ -34,9 +35,7 @@ fn fill_body(body: &mut [u8], event: &Event)
 pub fn write_event(out: &mut Bytes, head: &TlmHead, event: &Event)
     requires room { 24 ≤ out.old.spare }
     requires count { head.now.count < 16384 }
-    ensures bytes { out.new.list ≡ out.old.list ++ telemetry_packet event_id head.now (event_body event.now) }
-    ensures room { out.old.spare ≤ out.new.spare + 24 }
-    ensures len { length out.new.list ≡ length out.old.list + 24 }
+    ensures { Appends (telemetry_packet event_id head.now (event_body event.now)) 24 out.old out.new }
 {
     let mut packet = [0; EVENT_LENGTH];
     let (front, body) = packet.split_at_mut(TLM_FRONT_LENGTH);

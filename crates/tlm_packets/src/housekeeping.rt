@@ -1,9 +1,10 @@
 //! Housekeeping packets.
 
-ghost use Rattle.std.specs.Prelude.{◌≡◌, ◌+◌, ◌<◌, ◌≤◌, ◌++◌, length};
+ghost use Rattle.std.specs.Prelude.{◌≡◌, ◌<◌, ◌≤◌, ◌++◌, length};
 ghost use Rattle.tbl_kinds.specs.Names.{name_field};
 ghost use Rattle.tbl_kinds.specs.Packets.{telemetry_packet, housekeeping_id};
 ghost use Rattle.tbl_kinds.specs.Telemetry.{housekeeping_body, commands_and_loads, last_validation, validations_and_buffers, last_update};
+ghost use Rattle.cfe_headers.specs.Appends.{Appends};
 
 use cfe_headers::{TLM_FRONT_LENGTH, fill_tlm_front};
 use tbl_kinds::{Bytes, Housekeeping, TlmHead};
@@ -63,20 +64,6 @@ fn fill_last_update(out: &mut [u8], state: &Housekeeping)
 }
 
 #[inline]
-fn fill_numbers(out: &mut [u8], state: &Housekeeping)
-    requires { length out.old ≡ 30 }
-    ensures { out.new ≡ commands_and_loads state.now ++ last_validation state.now ++ validations_and_buffers state.now ++ last_update state.now }
-{
-    let (loads, rest) = out.split_at_mut(8);
-    let (validation, rest) = rest.split_at_mut(9);
-    let (buffers, update) = rest.split_at_mut(7);
-    fill_commands_and_loads(loads, state);
-    fill_last_validation(validation, state);
-    fill_validations_and_buffers(buffers, state);
-    fill_last_update(update, state);
-}
-
-#[inline]
 fn fill_names(out: &mut [u8], state: &Housekeeping)
     requires { length out.old ≡ 248 }
     ensures { out.new ≡ name_field 40 state.now.validated ++ name_field 40 state.now.updated ++ name_field 64 state.now.loaded_file
@@ -99,8 +86,14 @@ fn fill_body(out: &mut [u8], state: &Housekeeping)
     requires { length out.old ≡ 278 }
     ensures { out.new ≡ housekeeping_body state.now }
 {
-    let (numbers, names) = out.split_at_mut(30);
-    fill_numbers(numbers, state);
+    let (loads, rest) = out.split_at_mut(8);
+    let (validation, rest) = rest.split_at_mut(9);
+    let (buffers, rest) = rest.split_at_mut(7);
+    let (update, names) = rest.split_at_mut(6);
+    fill_commands_and_loads(loads, state);
+    fill_last_validation(validation, state);
+    fill_validations_and_buffers(buffers, state);
+    fill_last_update(update, state);
     fill_names(names, state);
 }
 
@@ -109,9 +102,7 @@ fn fill_body(out: &mut [u8], state: &Housekeeping)
 pub fn write_housekeeping(out: &mut Bytes, head: &TlmHead, state: &Housekeeping)
     requires room { 290 ≤ out.old.spare }
     requires count { head.now.count < 16384 }
-    ensures bytes { out.new.list ≡ out.old.list ++ telemetry_packet housekeeping_id head.now (housekeeping_body state.now) }
-    ensures room { out.old.spare ≤ out.new.spare + 290 }
-    ensures len { length out.new.list ≡ length out.old.list + 290 }
+    ensures { Appends (telemetry_packet housekeeping_id head.now (housekeeping_body state.now)) 290 out.old out.new }
 {
     let mut packet = [0; PACKET_LENGTH];
     let (front, body) = packet.split_at_mut(TLM_FRONT_LENGTH);

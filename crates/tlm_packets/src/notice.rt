@@ -1,8 +1,9 @@
 //! Notices: the commands that the service sends to applications.
 
-ghost use Rattle.std.specs.Prelude.{◌≡◌, ◌+◌, ◌<◌, ◌≤◌, ◌++◌, length};
+ghost use Rattle.std.specs.Prelude.{◌<◌, ◌≤◌};
 ghost use Rattle.tbl_kinds.specs.Numbers.{four};
 ghost use Rattle.tbl_kinds.specs.Packets.{command_packet};
+ghost use Rattle.cfe_headers.specs.Appends.{Appends};
 
 use cfe_headers::write_cmd;
 use tbl_kinds::Bytes;
@@ -13,9 +14,7 @@ pub fn write_notice(out: &mut Bytes, count: u16, msg: u16, code: u8, parameter: 
     requires room { 12 ≤ out.old.spare }
     requires count { count < 16384 }
     requires code { code < 128 }
-    ensures bytes { out.new.list ≡ out.old.list ++ command_packet msg count code (four parameter) }
-    ensures room { out.old.spare ≤ out.new.spare + 12 }
-    ensures len { length out.new.list ≡ length out.old.list + 12 }
+    ensures { Appends (command_packet msg count code (four parameter)) 12 out.old out.new }
 {
     write_cmd(out, msg, count, code, &parameter.to_be_bytes());
 }

@@ -1,8 +1,8 @@
 //! Packets read: the value whose packet bytes are, and none where they are no packet of its kind.
 
-ghost use Rattle.std.specs.Prelude.{◌≡◌, ◌+◌, ◌<◌, ◌≤◌, length, IfSome, Some, is_some};
+ghost use Rattle.std.specs.Prelude.{◌≡◌, ◌+◌, ◌<◌, ◌≤◌, length, IfSome, is_some};
 ghost use Rattle.tbl_kinds.specs.Heads.{has_name};
-ghost use Rattle.tlm_packets.specs.Reading.{has_head, body_in, name_at, event_in, is_housekeeping, housekeeping_in, is_row, row_in};
+ghost use Rattle.tlm_packets.specs.Reading.{has_head, body_in, name_at, event_in, is_housekeeping, housekeeping_in, is_row, row_in, GivesIf, ReadsExactly};
 ghost use Rattle.tlm_packets.specs.Spellings.{SpellsEvent, SpellsHousekeeping, SpellsRow};
 
 use crate::event::EVENT_ID;
@@ -38,8 +38,7 @@ fn body_of(bytes: &[u8], id: u16, len: usize) -> Option<&[u8]>
 fn name_of<const WIDTH: usize>(body: &[u8], place: usize) -> Option<Name<WIDTH>>
     requires within { place + WIDTH ≤ length body.now }
     requires narrow { WIDTH < 256 }
-    ensures right { is_some result ≡ has_name place WIDTH body.now }
-    ensures name { IfSome result (λ name. name ≡ name_at place WIDTH body.now) }
+    ensures { GivesIf (has_name place WIDTH body.now) (name_at place WIDTH body.now) result }
 {
     Name::exact(&body[place..place + WIDTH])
 }
@@ -58,8 +57,7 @@ fn event_of(body: &[u8]) -> Event
 
 /// Reads an event packet, all of the bytes. Its sequence count and its time are free. None where the bytes are no such packet.
 pub fn read_event(bytes: &[u8]) -> Option<Event>
-    ensures spelled { IfSome result (λ event. SpellsEvent bytes.now event) }
-    ensures again { (event : Event) → SpellsEvent bytes.now event → result ≡ Some event }
+    ensures { ReadsExactly (SpellsEvent bytes.now) result }
 {
     let body = body_of(bytes, EVENT_ID, 12)?;
     Some(event_of(body))
@@ -104,8 +102,7 @@ fn housekeeping_of(body: &[u8]) -> Option<Housekeeping>
 /// Reads a housekeeping packet, all of the bytes. Its sequence count and its time are free. None where the bytes are no such
 /// packet, as where a reserved byte or one after a name isn't zero.
 pub fn read_housekeeping(bytes: &[u8]) -> Option<Housekeeping>
-    ensures spelled { IfSome result (λ state. SpellsHousekeeping bytes.now state) }
-    ensures again { (state : Housekeeping) → SpellsHousekeeping bytes.now state → result ≡ Some state }
+    ensures { ReadsExactly (SpellsHousekeeping bytes.now) result }
 {
     let body = body_of(bytes, HOUSEKEEPING_ID, 278)?;
     housekeeping_of(body)
@@ -113,8 +110,7 @@ pub fn read_housekeeping(bytes: &[u8]) -> Option<Housekeeping>
 
 fn row_of(body: &[u8]) -> Option<RegistryRow>
     requires { length body.now ≡ 144 }
-    ensures is { is_some result ≡ is_row body.now }
-    ensures value { IfSome result (λ row. row ≡ row_in body.now) }
+    ensures { GivesIf (is_row body.now) (row_in body.now) result }
 {
     let name = name_of::<40>(body, 20)?;
     let owner = name_of::<20>(body, 60)?;
@@ -136,8 +132,7 @@ fn row_of(body: &[u8]) -> Option<RegistryRow>
 /// Reads a registry packet, all of the bytes. Its sequence count and its time are free. None where the bytes are no such packet,
 /// as where a byte after a name isn't zero.
 pub fn read_registry(bytes: &[u8]) -> Option<RegistryRow>
-    ensures spelled { IfSome result (λ row. SpellsRow bytes.now row) }
-    ensures again { (row : RegistryRow) → SpellsRow bytes.now row → result ≡ Some row }
+    ensures { ReadsExactly (SpellsRow bytes.now) result }
 {
     let body = body_of(bytes, REGISTRY_ID, 144)?;
     row_of(body)

@@ -1,10 +1,12 @@
 //! Registry packets, and the records that they carry.
 
-ghost use Rattle.std.specs.Prelude.{ℕ, List, ◌≡◌, ◌+◌, ◌<◌, ◌≤◌, [], ◌∷◌, ◌++◌, length};
+ghost use Rattle.std.specs.Prelude.{◌≡◌, ◌<◌, ◌≤◌, [], ◌∷◌, ◌++◌, length};
 ghost use Rattle.tbl_kinds.specs.Names.{name_field};
 ghost use Rattle.tbl_kinds.specs.Numbers.{two, four};
 ghost use Rattle.tbl_kinds.specs.Packets.{telemetry_packet, registry_id};
 ghost use Rattle.tbl_kinds.specs.Telemetry.{registry_record};
+ghost use Rattle.cfe_headers.specs.Appends.{Appends};
+ghost use Rattle.tlm_packets.specs.Begun.{Begins};
 
 use cfe_headers::{TLM_FRONT_LENGTH, fill_tlm_front};
 use tbl_kinds::{Bytes, RegistryRow, TlmHead};
@@ -65,9 +67,7 @@ fn fill_record(out: &mut [u8], row: &RegistryRow)
 /// Appends a table's registry record, 144 bytes, as registry packets and registry files have it.
 pub fn registry_bytes(out: &mut Bytes, row: &RegistryRow)
     requires { 144 ≤ out.old.spare }
-    ensures bytes { out.new.list ≡ out.old.list ++ registry_record row.now }
-    ensures room { out.old.spare ≤ out.new.spare + 144 }
-    ensures len { length out.new.list ≡ length out.old.list + 144 }
+    ensures { Appends (registry_record row.now) 144 out.old out.new }
 {
     let mut record = [0; RECORD_LENGTH];
     fill_record(&mut record, row);
@@ -81,9 +81,7 @@ pub fn registry_bytes(out: &mut Bytes, row: &RegistryRow)
 pub fn write_registry_front(out: &mut Bytes, head: &TlmHead)
     requires room { 12 ≤ out.old.spare }
     requires count { head.now.count < 16384 }
-    ensures bytes { (body : List ℕ) → length body ≡ 144 → out.new.list ++ body ≡ out.old.list ++ telemetry_packet registry_id head.now body }
-    ensures room { out.old.spare ≤ out.new.spare + 12 }
-    ensures len { length out.new.list ≡ length out.old.list + 12 }
+    ensures { Begins (telemetry_packet registry_id head.now) 144 12 out.old out.new }
 {
     let mut front = [0; TLM_FRONT_LENGTH];
     fill_tlm_front(&mut front, REGISTRY_ID, head, PACKET_LENGTH as u16);
@@ -95,9 +93,7 @@ pub fn write_registry_front(out: &mut Bytes, head: &TlmHead)
 pub fn write_registry(out: &mut Bytes, head: &TlmHead, row: &RegistryRow)
     requires room { 156 ≤ out.old.spare }
     requires count { head.now.count < 16384 }
-    ensures bytes { out.new.list ≡ out.old.list ++ telemetry_packet registry_id head.now (registry_record row.now) }
-    ensures room { out.old.spare ≤ out.new.spare + 156 }
-    ensures len { length out.new.list ≡ length out.old.list + 156 }
+    ensures { Appends (telemetry_packet registry_id head.now (registry_record row.now)) 156 out.old out.new }
 {
     let mut packet = [0; PACKET_LENGTH];
     let (front, record) = packet.split_at_mut(TLM_FRONT_LENGTH);

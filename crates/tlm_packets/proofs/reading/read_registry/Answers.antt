@@ -1,24 +1,27 @@
-use Rattle.std.proofs.Common.{◌≡◌, true, false, Some, length, sym, ap, ◌∙◌, arith}
+use Rattle.std.proofs.Common.{◌≡◌, true, false, Some, length, sym, ap, ◌∙◌, arith, rules}
 use Rattle.tlm_packets.specs.Reading.{body_in, is_row, row_in}
 use Rattle.tlm_packets.specs.Spellings.{SpellsRow}
 use Rattle.tlm_packets.proofs.Options.{if_there, is_there}
 use Rattle.tlm_packets.proofs.Rows.{read_row, spells_row}
 use Rattle.tlm_packets.proofs.reading.read_registry.Goals as goal
 
-pub returns-in_err-body-clause-again : goal.returns-in_err-body-clause-again
-returns-in_err-body-clause-again c value s =
-    let e : false ≡ true = c.in_err-body.ensures.has_head ∙ (read_row c.args.bytes.now value s).head in
-    absurd cc
+pub returns-in_err-body : goal.returns-in_err-body
+returns-in_err-body c = record {
+  spelled = search rules;
+  again = λ value s.
+      let e : false ≡ true = c.in_err-body.ensures.has_head ∙ (read_row c.args.bytes.now value s).head in
+      absurd cc;
+}
 
-pub returns-clause-spelled : goal.returns-clause-spelled
-returns-clause-spelled c =
-    let b = c.in_ok-body.ensures in
-    let part = rw b.body at c.row_of.ensures in
-    if_there c.row_of.result (is_row (body_in c.args.bytes.now)) (row_in (body_in c.args.bytes.now)) (SpellsRow c.args.bytes.now) part.is part.value
-    (spells_row c.args.bytes.now (λ i. omega (arith, c.type_inv.bytes i)) (sym b.has_head) (sym (ap length b.body) ∙ b.len))
-
-pub returns-clause-again : goal.returns-clause-again
-returns-clause-again c value s =
-    let part = rw c.in_ok-body.ensures.body at c.row_of.ensures in
-    let r = read_row c.args.bytes.now value s in
-    is_there c.row_of.result (row_in (body_in c.args.bytes.now)) (part.is ∙ r.is) part.value ∙ ap (λ v. Some v) r.value
+pub returns : goal.returns
+returns c = record {
+  spelled =
+      let b = c.in_ok-body.ensures in
+      let part = rw b.body at c.row_of.ensures in
+      if_there c.row_of.result (is_row (body_in c.args.bytes.now)) (row_in (body_in c.args.bytes.now)) (SpellsRow c.args.bytes.now) part.is part.value
+      (spells_row c.args.bytes.now (λ i. omega (arith, c.type_inv.bytes i)) (sym b.has_head) (sym (ap length b.body) ∙ b.len));
+  again = λ value s.
+      let part = rw c.in_ok-body.ensures.body at c.row_of.ensures in
+      let r = read_row c.args.bytes.now value s in
+      is_there c.row_of.result (row_in (body_in c.args.bytes.now)) (part.is ∙ r.is) part.value ∙ ap (λ v. Some v) r.value;
+}
