@@ -49,13 +49,9 @@ pub fn named(tables: &Tables, row: u8) -> Named
 
 /// The number of the validation function of the table of a row.
 pub fn validator(tables: &Tables, row: u8) -> Option<u8>
-    requires { IsSome (table_at tables.now row) }
     ensures { ForSome (table_at tables.now row) (λ t. result ≡ t.validator) }
 {
-    let Some(table) = tables.row(row) else {
-        unreachable!();
-    };
-    table.validator
+    tables.row(row)?.validator
 }
 
 /// That the next image of the table of a row goes active.
@@ -76,12 +72,11 @@ pub fn activated(tables: &Tables, row: u8) -> TelemetryEvent
 
 /// The room for the event that the copy of an image of the table in the row failed, if it is copied.
 pub fn copy_room(tables: &Tables, row: u8) -> usize
-    requires { IsSome (table_at tables.now row) }
     ensures room { result ≡ copy_room (table_at tables.now row) }
     ensures few { result ≤ 24 }
 {
-    let Some(table) = tables.row(row) else {
-        unreachable!();
-    };
-    event_room(table.flags.contains(Options::CRITICAL))
+    match tables.row(row) {
+        Some(table) => event_room(table.flags.contains(Options::CRITICAL)),
+        None => 0,
+    }
 }

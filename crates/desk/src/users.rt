@@ -1,8 +1,8 @@
 //! The rows that use the shared working buffers, which a load is answered that gets none.
 
-ghost use Rattle.std.specs.Prelude.{◌≡◌, ◌+◌, ◌≤◌, ◌==◌, [], ◌∷◌, ◌++◌, length, if◌then◌else◌};
+ghost use Rattle.std.specs.Prelude.{◌≡◌, ◌≤◌, ◌==◌, [], ◌∷◌, length, if◌then◌else◌};
 ghost use Rattle.tbl_model.specs.Tables.{in_use};
-ghost use Rattle.desk.specs.Rows.{rows_in};
+ghost use Rattle.desk.specs.Rows.{PutsRows};
 
 use tbl_kinds::{Answer, Bytes, Status};
 use tbl_registry::Tables;
@@ -13,9 +13,7 @@ pub const BUFFERS: usize = 4;
 /// Appends the row, if there is one.
 fn put_row(bytes: &mut Bytes, row: Option<u8>)
     requires { 1 ≤ bytes.old.spare }
-    ensures row { bytes.new.list ≡ bytes.old.list ++ rows_in (row ∷ []) }
-    ensures room { bytes.old.spare ≤ bytes.new.spare + 1 }
-    ensures len { length bytes.new.list ≤ length bytes.old.list + 1 }
+    ensures { PutsRows (row ∷ []) bytes.old bytes.new }
 {
     if let Some(row) = row {
         bytes.append(&[row]);
@@ -25,8 +23,7 @@ fn put_row(bytes: &mut Bytes, row: Option<u8>)
 /// Appends the rows that are at some of the places.
 fn put_rows(bytes: &mut Bytes, places: &[Option<u8>])
     requires { length places.now ≤ bytes.old.spare }
-    ensures rows { bytes.new.list ≡ bytes.old.list ++ rows_in places.now }
-    ensures len { length bytes.new.list ≤ length bytes.old.list + length places.now }
+    ensures { PutsRows places.now bytes.old bytes.new }
 {
     for place in places {
         put_row(bytes, *place);
