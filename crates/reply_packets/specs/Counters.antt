@@ -116,3 +116,7 @@ counted_load is_load file table c = record c {
   loaded = unwrap_or (if is_load then option_map (λ (t : Named). t.name) table else None) c.loaded;
   loaded_file = unwrap_or file c.loaded_file;
 }
+
+-- that a load which was asked for, from this file if it was from one, was answered so
+abbrev pub counted_answer : Status → Bool → Option (List ℕ) → Option Named → Counts → Counts
+counted_answer status is_load file table c = counted_load (is_success status && is_load) (if is_success status then file else None) table c

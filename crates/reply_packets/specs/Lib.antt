@@ -1,2 +1,3 @@
 pub mod Counters
+pub mod Puts
 pub mod Telling

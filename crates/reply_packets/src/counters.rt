@@ -1,18 +1,12 @@
 //! The running numbers of telemetry.
 
-ghost use Rattle.std.specs.Prelude.{◌≡◌, ℕ, ◌+◌, ◌%◌, ◌<◌, Some, true, if◌then◌else◌};
-ghost use Rattle.std.specs.Option.{option_copied};
-ghost use Rattle.tbl_model.specs.Commands.{asks_housekeeping, asks_reset_counters, asks_validate};
-ghost use Rattle.tbl_model.specs.CountsAfter.{bit, counts_after, tally_of};
+ghost use Rattle.std.specs.Prelude.{◌≡◌, ◌+◌, ◌%◌, ◌<◌, true};
+ghost use Rattle.tbl_model.specs.CountsAfter.{counts_after, tally_of};
 ghost use Rattle.tbl_model.specs.Counts.{Told, no_counts, restarts};
-ghost use Rattle.request_effects.specs.Requests.{read_of};
 
-use crate::events::is_good;
-use cmd_packets::Ground;
-use request_effects::{Clock, ReadCommand};
 use std::marker::Model;
-use tbl_kinds::{Name40, Name64, Status};
-use tbl_model::{Named, Notice, Shown, TelemetryEvent};
+use tbl_kinds::{Name40, Name64};
+use tbl_model::Shown;
 
 /// Sequence counts have 14 bits (CCSDS 133.0-B, "Packet Sequence Count").
 pub(crate) const SEQUENCE_COUNTS: u16 = 16_384;
@@ -77,44 +71,6 @@ impl Validation {
     }
 }
 
-/// A sequence count after one packet more.
-fn after(known: u16) -> u16
-    requires { known < 16384 }
-    ensures after { result ≡ (known + 1) % 16384 }
-    ensures within { result < 16384 }
-{
-    (known + 1) % SEQUENCE_COUNTS
-}
-
-/// A counter of commands: 0 if it was cleared, else one more if it counts this one.
-fn counted(known: u8, is_cleared: bool, counts: bool) -> u8
-    ensures { result ≡ (if is_cleared then 0 else (known + bit counts) % 256) }
-{
-    if is_cleared {
-        0
-    } else {
-        known.wrapping_add(u8::from(counts))
-    }
-}
-
-pub(crate) fn asks_housekeeping(command: &ReadCommand) -> bool
-    ensures { result ≡ asks_housekeeping (Some (read_of command.now)) }
-{
-    matches!(command, Ok(Ground::Housekeeping))
-}
-
-fn asks_reset_counters(command: &ReadCommand) -> bool
-    ensures { result ≡ asks_reset_counters (Some (read_of command.now)) }
-{
-    matches!(command, Ok(Ground::ResetCounters))
-}
-
-fn asks_validate(command: &ReadCommand) -> bool
-    ensures { result ≡ asks_validate (Some (read_of command.now)) }
-{
-    matches!(command, Ok(Ground::Validate { .. }))
-}
-
 /// How many commands were accepted and refused, and how many validations were requested and finished, since the counters were
 /// cleared; how many packets of each kind were sent since the service began, and what was the latest of each kind.
 #[derive(Drop)]
@@ -147,7 +103,7 @@ pub struct Counters {
 }
 
 impl Counters {
-    ghost use Rattle.reply_packets.specs.Counters.{counts_view, sent_events, sent_shown, sent_notice, counted_command, counted_event, counted_load};
+    ghost use Rattle.reply_packets.specs.Counters.{counts_view, sent_shown};
 
     /// Nothing was counted yet.
     pub fn make() -> Counters
@@ -211,105 +167,33 @@ impl Counters {
         *self = Counters::make();
     }
 
-    /// The sequence count of the next event, which is counted.
-    pub(crate) fn next_event(&mut self) -> u16
-        ensures sent { result ≡ self.old.events }
-        ensures counts { counts_view self.new ≡ sent_events 1 (counts_view self.old) }
-    {
-        let sent = self.events;
-        self.events = after(sent);
-        sent
-    }
-
-    /// And that of the next housekeeping packet.
+    /// The sequence count of the next housekeeping packet, which is counted.
     pub(crate) fn next_housekeeping(&mut self) -> u16
         ensures sent { result ≡ self.old.housekeepings }
         ensures counts { counts_view self.new ≡ sent_shown Shown.Housekeeping (counts_view self.old) }
     {
         let sent = self.housekeepings;
-        self.housekeepings = after(sent);
+        self.housekeepings = (sent + 1) % SEQUENCE_COUNTS;
         sent
     }
 
     /// And that of the next registry packet.
     pub(crate) fn next_registry(&mut self) -> u16
         ensures sent { result ≡ self.old.registries }
-        ensures counts { (row : ℕ) → counts_view self.new ≡ sent_shown (Shown.Registry row) (counts_view self.old) }
+        ensures counts { counts_view self.new ≡ sent_shown (Shown.Registry 0) (counts_view self.old) }
     {
         let sent = self.registries;
-        self.registries = after(sent);
+        self.registries = (sent + 1) % SEQUENCE_COUNTS;
         sent
     }
 
     /// And that of the next notice.
     pub(crate) fn next_notice(&mut self) -> u16
         ensures sent { result ≡ self.old.notices }
-        ensures counts { (notice : Notice) → counts_view self.new ≡ sent_notice (Some notice) (counts_view self.old) }
+        ensures counts { counts_view self.new ≡ record (counts_view self.old) { notices = (self.old.notices + 1) % 16384 } }
     {
         let sent = self.notices;
-        self.notices = after(sent);
+        self.notices = (sent + 1) % SEQUENCE_COUNTS;
         sent
-    }
-
-    /// Counts a command that was accepted, or refused.
-    pub(crate) fn count_command(&mut self, command: &ReadCommand, status: Status)
-        ensures { counts_view self.new ≡ counted_command (Some (read_of command.now)) status (counts_view self.old) }
-    {
-        let is_accepted = status == Status::SUCCESS;
-        let clears = is_accepted && asks_reset_counters(command);
-        let counts = is_accepted && !asks_housekeeping(command) && !asks_reset_counters(command);
-        self.accepted = counted(self.accepted, clears, counts);
-        self.refused = counted(self.refused, clears, !is_accepted);
-        self.requests = counted(self.requests, clears, is_accepted && asks_validate(command));
-        self.finished = if clears { 0 } else { self.finished };
-        self.good = if clears { 0 } else { self.good };
-        self.bad = if clears { 0 } else { self.bad };
-    }
-
-    /// Counts what an event reports.
-    pub(crate) fn count_event(&mut self, clock: Clock, event: &TelemetryEvent)
-        ensures { counts_view self.new ≡ counted_event clock.seconds clock.sub event.now (counts_view self.old) }
-    {
-        match event {
-            TelemetryEvent::Finished {
-                active,
-                check,
-                verdict,
-                name,
-                ..
-            } => {
-                let is_good = is_good(*verdict);
-                self.finished = self.finished.wrapping_add(1);
-                self.good = self.good.wrapping_add(u8::from(is_good));
-                self.bad = self.bad.wrapping_add(u8::from(!is_good));
-                self.validation = Validation {
-                    check: *check,
-                    verdict: *verdict,
-                    active: u8::from(*active),
-                    name: name.copy(),
-                };
-            }
-            TelemetryEvent::Activated { name, .. } => {
-                self.update = Update {
-                    seconds: clock.seconds,
-                    sub: clock.sub,
-                    name: name.copy(),
-                };
-            }
-            TelemetryEvent::Dumped { file, .. } => self.dumped_file = file.copy(),
-            _ => {}
-        }
-    }
-
-    /// Counts an accepted load of this table, from this file if it was from one.
-    pub(crate) fn count_load(&mut self, table: Option<&Named>, file: Option<&Name64>)
-        ensures { counts_view self.new ≡ counted_load true (option_copied file.entry) (option_copied table.entry) (counts_view self.old) }
-    {
-        if let Some(table) = table {
-            self.loaded = table.name.copy();
-        }
-        if let Some(file) = file {
-            self.loaded_file = file.copy();
-        }
     }
 }

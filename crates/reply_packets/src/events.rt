@@ -1,16 +1,17 @@
 //! The event packets of a request: that of a command, and one for each event of what was done.
 
-ghost use Rattle.std.specs.Prelude.{◌≡◌, ◌+◌, ◌*◌, ◌<◌, ◌≤◌, [], ◌∷◌, ◌++◌, ◌&&◌, map, length, false, Some};
+ghost use Rattle.std.specs.Prelude.{◌≡◌, ◌*◌, ◌<◌, ◌≤◌, [], ◌∷◌, ◌&&◌, map, length, false, Some};
 ghost use Rattle.tbl_kinds.specs.Statuses.{is_success};
-ghost use Rattle.tbl_model.specs.Commands.{asks_housekeeping, command_code};
-ghost use Rattle.std.specs.Option.{option_copied};
+ghost use Rattle.tbl_model.specs.Commands.{asks_housekeeping};
 ghost use Rattle.tbl_model.specs.Telemetry.{is_good};
-ghost use Rattle.tbl_model.specs.Events.{row_field, table_field, verdict_event, sent_event};
+ghost use Rattle.tbl_model.specs.Events.{row_field, verdict_event, sent_event};
 ghost use Rattle.tbl_model.specs.Replies.{head_at, event_packets};
 ghost use Rattle.request_effects.specs.Requests.{read_of};
-ghost use Rattle.reply_packets.specs.Counters.{counts_view, sent_events, counted_events, answered_events};
+ghost use Rattle.reply_packets.specs.Counters.{counted_events, answered_events};
+ghost use Rattle.reply_packets.specs.Puts.{Puts, PutsEvents};
 
-use crate::counters::{Counters, SEQUENCE_COUNTS, asks_housekeeping};
+use crate::counters::{Counters, SEQUENCE_COUNTS};
+use cmd_packets::Ground;
 use request_effects::{Clock, ReadCommand, code_of};
 use tbl_kinds::{Answer, Bytes, Event, Status, TlmHead};
 use tbl_model::{Named, TelemetryEvent};
@@ -25,16 +26,6 @@ fn row_field(row: Option<u8>) -> u16
 {
     match row {
         Some(row) => u16::from(row),
-        None => NO_ROW,
-    }
-}
-
-/// The row field of a command's event.
-fn table_field(table: Option<&Named>) -> u16
-    ensures { result ≡ table_field (option_copied table.entry) }
-{
-    match table {
-        Some(table) => u16::from(table.row),
         None => NO_ROW,
     }
 }
@@ -93,22 +84,15 @@ fn sent_event(event: &TelemetryEvent) -> Event
     }
 }
 
-/// The function code of a command, which event 1 has.
-fn command_code(command: &ReadCommand) -> u8
-    ensures { result ≡ command_code (Some (read_of command.now)) }
-{
-    match command {
-        Ok(command) => code_of(command),
-        Err(_) => 0,
-    }
-}
-
 /// The event of a command itself: 1 if it was accepted, 2 if it was refused.
-fn command_event(command: &ReadCommand, answer: Answer, table: Option<&Named>) -> Event
+fn command_event(command: &ReadCommand, answer: Answer, table: &Option<Named>) -> Event
     ensures { (is_success answer.status && asks_housekeeping (Some (read_of command.now))) ≡ false
-        → answered_events (read_of command.now) answer (option_copied table.entry) ≡ result ∷ [] }
+        → answered_events (read_of command.now) answer table.now ≡ result ∷ [] }
 {
-    let row = table_field(table);
+    let row = match table {
+        Some(table) => u16::from(table.row),
+        None => NO_ROW,
+    };
     if answer.status != Status::SUCCESS {
         return Event {
             number: 2,
@@ -117,12 +101,23 @@ fn command_event(command: &ReadCommand, answer: Answer, table: Option<&Named>) -
             detail: answer.detail,
         };
     }
+    let code = match command {
+        Ok(command) => code_of(command),
+        Err(_) => 0,
+    };
     Event {
         number: 1,
         status: Status::SUCCESS,
         row,
-        detail: u32::from(command_code(command)),
+        detail: u32::from(code),
     }
+}
+
+/// Whether a command asks for housekeeping.
+fn asks_housekeeping(command: &ReadCommand) -> bool
+    ensures { result ≡ asks_housekeeping (Some (read_of command.now)) }
+{
+    matches!(command, Ok(Ground::Housekeeping))
 }
 
 /// The head of a packet before which so many of its kind were sent.
@@ -140,12 +135,10 @@ pub(crate) fn head_at(clock: Clock, sent: u16) -> TlmHead
 /// Appends an event packet, and counts it.
 fn put_event(packets: &mut Bytes, clock: Clock, counters: &mut Counters, event: &Event)
     requires { 24 ≤ packets.old.spare }
-    ensures bytes { packets.new.list ≡ packets.old.list ++ event_packets clock.seconds clock.sub counters.old.events (event.now ∷ []) }
-    ensures room { packets.old.spare ≤ packets.new.spare + 24 }
-    ensures len { length packets.new.list ≡ length packets.old.list + 24 }
-    ensures counts { counts_view counters.new ≡ sent_events 1 (counts_view counters.old) }
+    ensures { PutsEvents clock (event.now ∷ []) packets.old packets.new counters.old counters.new }
 {
-    let head = head_at(clock, counters.next_event());
+    let head = head_at(clock, counters.events);
+    counters.events = (counters.events + 1) % SEQUENCE_COUNTS;
     write_event(packets, &head, event);
 }
 
@@ -157,13 +150,10 @@ pub(crate) fn put_command(
     counters: &mut Counters,
     command: &ReadCommand,
     answer: Answer,
-    table: Option<&Named>,
+    table: &Option<Named>,
 )
     requires { 24 ≤ packets.old.spare }
-    ensures bytes { packets.new.list ≡ packets.old.list ++ event_packets clock.seconds clock.sub counters.old.events (answered_events (read_of command.now) answer (option_copied table.entry)) }
-    ensures room { packets.old.spare ≤ packets.new.spare + 24 }
-    ensures len { length packets.new.list ≤ length packets.old.list + 24 }
-    ensures counts { counts_view counters.new ≡ sent_events (length (answered_events (read_of command.now) answer (option_copied table.entry))) (counts_view counters.old) }
+    ensures { PutsEvents clock (answered_events (read_of command.now) answer table.now) packets.old packets.new counters.old counters.new }
 {
     if answer.status == Status::SUCCESS && asks_housekeeping(command) {
         return;
@@ -180,10 +170,8 @@ pub(crate) fn put_events(
     events: &[TelemetryEvent],
 )
     requires room { 24 * length events.now ≤ packets.old.spare }
-    ensures bytes { packets.new.list ≡ packets.old.list ++ event_packets clock.seconds clock.sub counters.old.events (map sent_event events.now) }
-    ensures room { packets.old.spare ≤ packets.new.spare + 24 * length events.now }
-    ensures len { length packets.new.list ≡ length packets.old.list + 24 * length events.now }
-    ensures counts { counts_view counters.new ≡ counted_events clock.seconds clock.sub events.now (counts_view counters.old) }
+    ensures { Puts (event_packets clock.seconds clock.sub counters.old.events (map sent_event events.now)) (24 * length events.now)
+        (counted_events clock.seconds clock.sub events.now) packets.old packets.new counters.old counters.new }
 {
     for event in events {
         put_event(packets, clock, counters, &sent_event(event));

@@ -3,6 +3,7 @@
 #![tactic(auto)]
 
 mod counters;
+mod counting;
 mod events;
 mod packets;
 mod telling;

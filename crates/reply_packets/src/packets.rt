@@ -1,10 +1,11 @@
 //! The packets after the events: housekeeping, a table's registry packet, a notice.
 
-ghost use Rattle.std.specs.Prelude.{◌≡◌, ◌+◌, ◌≤◌, ◌++◌, length, count_by, is_none, IfSome};
+ghost use Rattle.std.specs.Prelude.{◌≡◌, ◌≤◌, count_by, is_none, IfSome};
 ghost use Rattle.tbl_model.specs.Tables.{free_buffers};
 ghost use Rattle.tbl_model.specs.Replies.{housekeeping_of, notice_packet};
 ghost use Rattle.tbl_model.specs.Fit.{HasCode};
-ghost use Rattle.reply_packets.specs.Counters.{counts_view, sent_shown, sent_notice, shown_after};
+ghost use Rattle.reply_packets.specs.Counters.{counts_view, sent_notice};
+ghost use Rattle.reply_packets.specs.Puts.{Puts, PutsShown};
 ghost use Rattle.request_effects.specs.Effects.{shown_len, notice_len};
 
 use crate::counters::Counters;
@@ -61,10 +62,7 @@ fn housekeeping(counters: &Counters, tables: &Tables) -> Housekeeping
 #[inline(never)]
 fn put_housekeeping(packets: &mut Bytes, clock: Clock, counters: &mut Counters, tables: &Tables)
     requires room { 290 ≤ packets.old.spare }
-    ensures bytes { packets.new.list ≡ packets.old.list ++ shown_after clock.seconds clock.sub (counts_view counters.old) tables.now Shown.Housekeeping }
-    ensures len { length packets.new.list ≤ length packets.old.list + 290 }
-    ensures room { packets.old.spare ≤ packets.new.spare + 290 }
-    ensures counts { counts_view counters.new ≡ sent_shown Shown.Housekeeping (counts_view counters.old) }
+    ensures { PutsShown clock tables.now Shown.Housekeeping packets.old packets.new counters.old counters.new }
 {
     let head = head_at(clock, counters.next_housekeeping());
     write_housekeeping(packets, &head, &housekeeping(counters, tables));
@@ -80,10 +78,7 @@ fn put_registry(
     row: u8,
 )
     requires room { 156 ≤ packets.old.spare }
-    ensures bytes { packets.new.list ≡ packets.old.list ++ shown_after clock.seconds clock.sub (counts_view counters.old) tables.now (Shown.Registry row) }
-    ensures len { length packets.new.list ≤ length packets.old.list + 156 }
-    ensures room { packets.old.spare ≤ packets.new.spare + 156 }
-    ensures counts { counts_view counters.new ≡ sent_shown (Shown.Registry row) (counts_view counters.old) }
+    ensures { PutsShown clock tables.now (Shown.Registry row) packets.old packets.new counters.old counters.new }
 {
     let head = head_at(clock, counters.next_registry());
     if tables.name(row).is_none() {
@@ -102,10 +97,7 @@ pub(crate) fn put_shown(
     shown: Shown,
 )
     requires room { shown_len shown ≤ packets.old.spare }
-    ensures bytes { packets.new.list ≡ packets.old.list ++ shown_after clock.seconds clock.sub (counts_view counters.old) tables.now shown }
-    ensures len { length packets.new.list ≤ length packets.old.list + shown_len shown }
-    ensures room { packets.old.spare ≤ packets.new.spare + shown_len shown }
-    ensures counts { counts_view counters.new ≡ sent_shown shown (counts_view counters.old) }
+    ensures { PutsShown clock tables.now shown packets.old packets.new counters.old counters.new }
 {
     match shown {
         Shown::Nothing => {}
@@ -118,9 +110,7 @@ pub(crate) fn put_shown(
 pub(crate) fn put_notice(packets: &mut Bytes, counters: &mut Counters, notice: Option<Notice>)
     requires code { IfSome notice HasCode }
     requires room { notice_len notice ≤ packets.old.spare }
-    ensures bytes { packets.new.list ≡ packets.old.list ++ notice_packet (counts_view counters.old) notice }
-    ensures len { length packets.new.list ≤ length packets.old.list + notice_len notice }
-    ensures counts { counts_view counters.new ≡ sent_notice notice (counts_view counters.old) }
+    ensures { Puts (notice_packet (counts_view counters.old) notice) (notice_len notice) (sent_notice notice) packets.old packets.new counters.old counters.new }
 {
     if let Some(notice) = notice {
         let sent = counters.next_notice();

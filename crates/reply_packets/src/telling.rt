@@ -1,17 +1,14 @@
 //! What a request did is reported by its packets, and counted as they are put.
 
-ghost use Rattle.std.specs.Prelude.{◌≡◌, ◌==◌, ◌&&◌, ℕ, List, ◌≤◌, [], length, Some, None, is_some, IfSome, false, if◌then◌else◌};
-ghost use Rattle.tbl_kinds.specs.Statuses.{is_success};
-ghost use Rattle.std.specs.Option.{option_copied};
-ghost use Rattle.tbl_kinds.specs.declared.note.BankNote.{BankNote};
+ghost use Rattle.std.specs.Prelude.{◌≡◌, ◌≤◌, [], length, Some, None, is_some, IfSome, false};
 ghost use Rattle.tbl_kinds.specs.declared.request.Request.{Request as Asked};
 ghost use Rattle.tbl_model.specs.Commands.{read_command_in, file_of_load};
 ghost use Rattle.tbl_model.specs.Counts.{is_reset, asks_load, load_file_of};
 ghost use Rattle.tbl_model.specs.Fit.{HasCode};
 ghost use Rattle.request_effects.specs.Requests.{read_of};
-ghost use Rattle.request_effects.specs.Effects.{HasRoom, reported_effect, told_effect, told_at, reply_limit};
-ghost use Rattle.reply_packets.specs.Counters.{counts_view, counted_load};
-ghost use Rattle.reply_packets.specs.Telling.{Tells};
+ghost use Rattle.request_effects.specs.Effects.{HasRoom, told_effect, reply_limit};
+ghost use Rattle.reply_packets.specs.Counters.{counts_view, counted_answer};
+ghost use Rattle.reply_packets.specs.Telling.{TellsAt, reported};
 
 use crate::counters::Counters;
 use crate::events::{put_command, put_events};
@@ -27,11 +24,10 @@ fn count_commanded(
     counters: &mut Counters,
     command: &ReadCommand,
     status: Status,
-    table: Option<&Named>,
+    table: &Option<Named>,
 )
     ensures { let read = Some (read_of command.now) in
-        counts_view counters.new ≡ counted_load (is_success status && is_some (file_of_load read))
-        (if is_success status then file_of_load read else None) (option_copied table.entry) (counts_view counters.old) }
+        counts_view counters.new ≡ counted_answer status (is_some (file_of_load read)) (file_of_load read) table.now (counts_view counters.old) }
 {
     match command {
         Ok(Ground::Load { file }) if status == Status::SUCCESS => {
@@ -42,9 +38,8 @@ fn count_commanded(
 }
 
 /// And that of a call.
-fn count_called(counters: &mut Counters, request: &Request, status: Status, table: Option<&Named>)
-    ensures { counts_view counters.new ≡ counted_load (is_success status && asks_load request.now None)
-        (if is_success status then load_file_of request.now None else None) (option_copied table.entry) (counts_view counters.old) }
+fn count_called(counters: &mut Counters, request: &Request, status: Status, table: &Option<Named>)
+    ensures { counts_view counters.new ≡ counted_answer status (asks_load request.now None) (load_file_of request.now None) table.now (counts_view counters.old) }
 {
     if status != Status::SUCCESS {
         return;
@@ -56,63 +51,8 @@ fn count_called(counters: &mut Counters, request: &Request, status: Status, tabl
     }
 }
 
-/// Reports what a command did that was read so and answered so, and counts it.
-fn report_command(
-    packets: &mut Bytes,
-    clock: Clock,
-    counters: &mut Counters,
-    tables: &Tables,
-    command: &ReadCommand,
-    answer: Answer,
-    report: &Report,
-)
-    requires goes_on { (answer.status.0 == Status.INFO_STOPPED.0) ≡ false }
-    requires few { length report.now.events ≤ 8 }
-    requires code { IfSome report.now.notice HasCode }
-    requires room { HasRoom 24 packets.old (told_effect answer [] report.now) }
-    // Telemetry reports neither the reply's bytes nor the note.
-    ensures tells { (request : Asked) → read_command_in request ≡ Some (read_of command.now) → (bytes : List ℕ) (note : BankNote)
-        → Tells (counts_view counters.old) (counts_view counters.new)
-        (told_at clock.seconds clock.sub tables.now request (reported_effect answer bytes report.now note)) packets.new.list }
-    ensures len { length packets.new.list ≤ reply_limit }
-{
-    put_command(packets, clock, counters, command, answer, report.table());
-    put_events(packets, clock, counters, report.events());
-    counters.count_command(command, answer.status);
-    count_commanded(counters, command, answer.status, report.table());
-    put_shown(packets, clock, counters, tables, report.shown());
-    put_notice(packets, counters, report.notice());
-}
-
-/// Reports what a call did that was answered so, and counts it.
-fn report_call(
-    packets: &mut Bytes,
-    clock: Clock,
-    counters: &mut Counters,
-    tables: &Tables,
-    request: &Request,
-    answer: Answer,
-    report: &Report,
-)
-    requires call { read_command_in request.now ≡ None }
-    requires no_reset { is_reset request.now ≡ false }
-    requires goes_on { (answer.status.0 == Status.INFO_STOPPED.0) ≡ false }
-    requires few { length report.now.events ≤ 8 }
-    requires code { IfSome report.now.notice HasCode }
-    requires room { HasRoom 0 packets.old (told_effect answer [] report.now) }
-    ensures tells { (bytes : List ℕ) (note : BankNote)
-        → Tells (counts_view counters.old) (counts_view counters.new)
-        (told_at clock.seconds clock.sub tables.now request.now (reported_effect answer bytes report.now note)) packets.new.list }
-    ensures len { length packets.new.list ≤ reply_limit }
-{
-    put_events(packets, clock, counters, report.events());
-    count_called(counters, request, answer.status, report.table());
-    put_shown(packets, clock, counters, tables, report.shown());
-    put_notice(packets, counters, report.notice());
-}
-
 /// Reports what a command did that was read so and answered so, and counts it. A stop inside it isn't reported: nothing was sent then, and
-/// the service began again.
+/// the service began again. Telemetry reports neither the reply's bytes nor the note.
 pub fn tell_command(
     packets: &mut Bytes,
     clock: Clock,
@@ -125,17 +65,20 @@ pub fn tell_command(
     requires few { length report.now.events ≤ 8 }
     requires code { IfSome report.now.notice HasCode }
     requires room { HasRoom 24 packets.old (told_effect answer [] report.now) }
-    // Telemetry reports neither the reply's bytes nor the note.
-    ensures tells { (request : Asked) → read_command_in request ≡ Some (read_of command.now) → (bytes : List ℕ) (note : BankNote)
-        → Tells (counts_view counters.old) (counts_view counters.new)
-        (told_at clock.seconds clock.sub tables.now request (reported_effect answer bytes report.now note)) packets.new.list }
+    ensures tells { (request : Asked) → read_command_in request ≡ Some (read_of command.now)
+        → TellsAt clock tables.now (reported answer report.now) request (counts_view counters.old) (counts_view counters.new) packets.new.list }
     ensures len { length packets.new.list ≤ reply_limit }
 {
     if answer.status == Status::INFO_STOPPED {
         counters.begin_anew();
         return;
     }
-    report_command(packets, clock, counters, tables, command, answer, report);
+    put_command(packets, clock, counters, command, answer, &report.table);
+    put_events(packets, clock, counters, report.events());
+    counters.count_command(command, answer.status);
+    count_commanded(counters, command, answer.status, &report.table);
+    put_shown(packets, clock, counters, tables, report.shown);
+    put_notice(packets, counters, report.notice);
 }
 
 /// Reports what a call did that was answered so, and counts it. A stop inside it isn't reported: nothing was sent then, and the service
@@ -154,14 +97,15 @@ pub fn tell_call(
     requires few { length report.now.events ≤ 8 }
     requires code { IfSome report.now.notice HasCode }
     requires room { HasRoom 0 packets.old (told_effect answer [] report.now) }
-    ensures tells { (bytes : List ℕ) (note : BankNote)
-        → Tells (counts_view counters.old) (counts_view counters.new)
-        (told_at clock.seconds clock.sub tables.now request.now (reported_effect answer bytes report.now note)) packets.new.list }
+    ensures tells { TellsAt clock tables.now (reported answer report.now) request.now (counts_view counters.old) (counts_view counters.new) packets.new.list }
     ensures len { length packets.new.list ≤ reply_limit }
 {
     if answer.status == Status::INFO_STOPPED {
         counters.begin_anew();
         return;
     }
-    report_call(packets, clock, counters, tables, request, answer, report);
+    put_events(packets, clock, counters, report.events());
+    count_called(counters, request, answer.status, &report.table);
+    put_shown(packets, clock, counters, tables, report.shown);
+    put_notice(packets, counters, report.notice);
 }

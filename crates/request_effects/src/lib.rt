@@ -5,9 +5,7 @@
 mod clock;
 mod report;
 mod requests;
-mod subjects;
 
 pub use clock::Clock;
 pub use report::Report;
-pub use requests::{ReadCommand, code_of, read};
-pub use subjects::{notice, subject};
+pub use requests::{ReadCommand, code_of, notice, read, subject};

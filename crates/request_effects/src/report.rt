@@ -1,7 +1,6 @@
 //! What telemetry reports of a request.
 
 ghost use Rattle.std.specs.Prelude.{◌≡◌, ◌<◌, ◌++◌, [], ◌∷◌, length, None, Some, IfOk};
-ghost use Rattle.std.specs.Option.{option_copied};
 ghost use Rattle.request_effects.specs.Reports.{nothing_reported, most_events};
 
 use std::alloc::Global;
@@ -16,10 +15,13 @@ const EVENT_LIMIT: usize = 8;
 /// out of memory once it is done.
 #[derive(Drop)]
 pub struct Report {
-    table: Option<Named>,
+    /// The table that a command names or a load fills.
+    pub table: Option<Named>,
     events: Vec<TelemetryEvent>,
-    shown: Shown,
-    notice: Option<Notice>,
+    /// The packet after the events.
+    pub shown: Shown,
+    /// The command packet that notifies an application of pending work.
+    pub notice: Option<Notice>,
     verdicts: [Option<i32>; 2],
 }
 
@@ -59,32 +61,11 @@ impl Report {
         self.verdicts = [None, None];
     }
 
-    /// The table that a command names or a load fills.
-    pub fn table(&self) -> Option<&Named>
-        ensures { option_copied result ≡ self.now.table }
-    {
-        self.table.as_ref()
-    }
-
     /// What was done, in order.
     pub fn events(&self) -> &[TelemetryEvent]
         ensures { result.now ≡ self.now.events }
     {
         self.events.as_slice()
-    }
-
-    /// The packet after the events.
-    pub fn shown(&self) -> Shown
-        ensures { result ≡ self.now.shown }
-    {
-        self.shown
-    }
-
-    /// The command packet that notifies an application of pending work.
-    pub fn notice(&self) -> Option<Notice>
-        ensures { result ≡ self.now.notice }
-    {
-        self.notice
     }
 
     /// What validation functions answered, in order.

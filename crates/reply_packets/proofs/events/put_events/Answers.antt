@@ -1,7 +1,7 @@
 use Rattle.std.proofs.Common.{◌∙◌, ap, arith}
 use Rattle.tbl_model.specs.Counts.{Counts}
 use Rattle.reply_packets.specs.Counters.{counts_view, sent_events, counted_event}
-use Rattle.reply_packets.proofs.Counting.{counted_next, put_next, same_events}
+use Rattle.reply_packets.proofs.Counted.{counted_next, put_next, same_events}
 use Rattle.reply_packets.proofs.events.put_events.Goals as goal
 
 pub loop-event-preserved : goal.loop-event-preserved

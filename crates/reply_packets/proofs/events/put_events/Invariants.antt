@@ -10,5 +10,5 @@ invariant-loop-event l = record {
       ≡ l.fn.packets.list ++ event_packets l.clock.seconds l.clock.sub l.fn.counters.events (map sent_event l.events);
   counts : counts_view l.counters ≡ counted_events l.clock.seconds l.clock.sub (take l.event-index l.events) (counts_view l.fn.counters);
   room : l.fn.packets.spare ≤ l.packets.spare + 24 * l.event-index;
-  len : length l.packets.list ≡ length l.fn.packets.list + 24 * l.event-index;
+  len : length l.packets.list ≤ length l.fn.packets.list + 24 * l.event-index;
 }
