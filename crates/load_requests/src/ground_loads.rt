@@ -1,23 +1,50 @@
 //! Loads from files, which the ground asks for.
 
-ghost use Rattle.std.specs.Prelude.{◌≡◌, [], length, Some, None, IsSome, OnOk, OnErr};
+ghost use Rattle.std.specs.Prelude.{◌≡◌, [], length, Some, None, IsSome, OnOk, OnErr, IfOk, IfErr};
 ghost use Rattle.std.specs.Option.{ForSome};
 ghost use Rattle.tbl_model.specs.Tables.{table_at, is_double};
 ghost use Rattle.tbl_model.specs.TableSteps.{patch};
 ghost use Rattle.tbl_model.specs.Refusals.{open_refusal, load_refusal};
 ghost use Rattle.tbl_model.specs.GroundLoads.{load_effect};
+ghost use Rattle.table_files.specs.Files.{with_image};
 ghost use Rattle.desk.specs.Desk.{IsEmpty, output};
 ghost use Rattle.desk.specs.Requests.{Served, command};
+ghost use Rattle.load_requests.specs.Loads.{LeadsToFile, IsNoFile};
 
-use crate::files::table_file;
 use crate::refusals::{buffer_refusal, lock_refusal, part_refusal, refusal};
 use bitflags::Flags;
 use desk::{BUFFERS, Desk, put_users};
+use file_drawer::Drawer;
 use request_effects::{Report, subject};
 use std::alloc::Global;
-use tbl_kinds::{Answer, Memory, Name64, Options, Reply, Status};
+use table_files::{IMAGE_PLACE, TableFile, read_table_file};
+use tbl_kinds::{Admit, Answer, Memory, Name64, Options, Reply, Status};
 use tbl_outside::Validator;
 use tbl_registry::Tables;
+
+/// What the headers of the uplinked table file of this name say, and its image bytes. Its spacecraft and its processor have to be
+/// admitted.
+#[inline]
+pub(crate) fn table_file<'a>(
+    drawer: &'a Drawer,
+    admit: &Admit,
+    file: &Name64,
+) -> Result<(TableFile, &'a [u8]), Answer>
+    ensures ok { IfOk result (λ read. LeadsToFile drawer.now admit.now file.now (with_image read.0 read.1.now)) }
+    ensures count { IfOk result (λ read. length read.1.now ≡ read.0.count) }
+    ensures err { IfErr result (IsNoFile drawer.now admit.now file.now) }
+{
+    let Some(contents) = drawer.get(file) else {
+        return Err(Answer::plain(Status::ERR_FILE_NOT_FOUND));
+    };
+    match read_table_file(contents, admit) {
+        Ok(parsed) => {
+            let (_, image) = contents.split_at(IMAGE_PLACE);
+            Ok((parsed, image))
+        }
+        Err(fault) => Err(fault.answer()),
+    }
+}
 
 /// Why no load of the table of a row opens.
 fn open_refusal(tables: &Tables, row: u8, double: bool) -> Option<Answer>
@@ -32,12 +59,9 @@ fn open_refusal(tables: &Tables, row: u8, double: bool) -> Option<Answer>
 
 /// Why so many bytes from this offset on don't go into the load of the table of a row, if they don't.
 fn load_refusal(tables: &Tables, row: u8, offset: u32, len: u32) -> Option<Answer>
-    requires { IsSome (table_at tables.now row) }
     ensures { ForSome (table_at tables.now row) (λ t. result ≡ load_refusal tables.now row t offset len) }
 {
-    let Some(table) = tables.row(row) else {
-        unreachable!();
-    };
+    let table = tables.row(row)?;
     if table.flags.contains(Options::DUMP_ONLY) {
         return refusal(Status::ERR_DUMP_ONLY);
     }
@@ -105,5 +129,8 @@ pub fn load<C: Validator>(
     fill(desk.alloc, &mut desk.tables, row, parsed.offset, bytes)?;
     desk.tables.set_file(row, file);
     report.name_table(table);
-    Ok(Answer::plain(Status::SUCCESS))
+    Ok(Answer {
+        status: Status::SUCCESS,
+        detail: 0,
+    })
 }

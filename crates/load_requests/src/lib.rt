@@ -3,7 +3,6 @@
 #![tactic(auto)]
 
 mod aborts;
-mod files;
 mod ground_loads;
 mod owner_loads;
 mod questions;

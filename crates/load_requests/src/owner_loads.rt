@@ -1,6 +1,6 @@
 //! Images and files that the owners of tables load.
 
-ghost use Rattle.std.specs.Prelude.{◌≡◌, ◌≤◌, ◌<◌, ◌-◌, ◌^◌, ℕ, List, [], ◌∷◌, length, None, Some, IsSome, is_some, option_copied, OnOk, IfOk};
+ghost use Rattle.std.specs.Prelude.{◌≡◌, ◌<◌, ◌-◌, ◌^◌, ℕ, List, [], ◌∷◌, length, None, Some, IsSome, option_copied, OnOk, IfOk};
 ghost use Rattle.std.specs.Option.{ForSome};
 ghost use Rattle.std.specs.Str.{bytes_eq};
 ghost use Rattle.tbl_kinds.specs.declared.entry.Reply.{Reply};
@@ -9,14 +9,13 @@ ghost use Rattle.tbl_model.specs.TableSteps.{put, set_time};
 ghost use Rattle.tbl_model.specs.Refusals.{closed_refusal, busy_refusal, image_refusal, file_refusal};
 ghost use Rattle.table_files.specs.Files.{with_image};
 ghost use Rattle.validation.specs.Kits.{MayAsk};
-ghost use Rattle.validation.specs.Asked.{WasAsked, asks};
 ghost use Rattle.request_effects.specs.Reports.{nothing_reported};
 ghost use Rattle.desk.specs.Desk.{IsOrderly, IsEmpty, output};
 ghost use Rattle.desk.specs.Requests.{Made, Served};
 ghost use Rattle.desk.specs.Rooms.{load_room};
-ghost use Rattle.load_requests.specs.Loads.{image_load, file_load, admission, with_file, FitsIn, IsRoomy, verdict_refusal, verdict_events};
+ghost use Rattle.load_requests.specs.Loads.{image_load, file_load, admission, with_file, FitsIn, IsRoomy, WasJudged, verdict_refusal, verdict_events};
 
-use crate::files::table_file;
+use crate::ground_loads::table_file;
 use crate::refusals::{buffer_refusal, lock_refusal, part_refusal, refusal};
 use bitflags::Flags;
 use buffer_pairs::{Image, SPARE_LIMIT};
@@ -45,12 +44,9 @@ fn busy_refusal(tables: &Tables, row: u8, double: bool) -> Option<Answer>
 /// Why the owner of the table of a row loads nothing into it now, if so: the table is dump-only (`ERR_DUMP_ONLY`), or a
 /// load of it is open (`ERR_LOAD_IN_PROGRESS`).
 pub(crate) fn closed_refusal(tables: &Tables, row: u8) -> Option<Answer>
-    requires { IsSome (table_at tables.now row) }
     ensures { ForSome (table_at tables.now row) (λ t. result ≡ closed_refusal t) }
 {
-    let Some(table) = tables.row(row) else {
-        unreachable!();
-    };
+    let table = tables.row(row)?;
     if table.flags.contains(Options::DUMP_ONLY) {
         return refusal(Status::ERR_DUMP_ONLY);
     }
@@ -62,15 +58,12 @@ pub(crate) fn closed_refusal(tables: &Tables, row: u8) -> Option<Answer>
 
 /// Why an image of so many bytes isn't taken as the next one of the table of a row, if it isn't.
 pub(crate) fn image_refusal(tables: &Tables, row: u8, len: usize) -> Option<Answer>
-    requires { IsSome (table_at tables.now row) }
     ensures { ForSome (table_at tables.now row) (λ t. result ≡ image_refusal tables.now row t len) }
 {
     if let Some(answer) = closed_refusal(tables, row) {
         return Some(answer);
     }
-    let Some(table) = tables.row(row) else {
-        unreachable!();
-    };
+    let table = tables.row(row)?;
     if len != table.size as usize {
         return refusal(Status::ERR_IMAGE_SIZE);
     }
@@ -89,12 +82,9 @@ fn is_named(tables: &Tables, row: u8, name: &Name40) -> bool
 
 /// Why a file isn't taken by the owner of the table of a row, into which a load may go.
 pub(crate) fn file_refusal(tables: &Tables, row: u8, file: &TableFile) -> Option<Answer>
-    requires { IsSome (table_at tables.now row) }
     ensures { (image : List ℕ) → length image ≡ file.now.count → ForSome (table_at tables.now row) (λ t. result ≡ file_refusal tables.now row t (with_image file.now image)) }
 {
-    let Some(table) = tables.row(row) else {
-        unreachable!();
-    };
+    let table = tables.row(row)?;
     if !is_named(tables, row, &file.name) {
         return refusal(Status::ERR_FILE_FOR_WRONG_TABLE);
     }
@@ -108,22 +98,20 @@ pub(crate) fn file_refusal(tables: &Tables, row: u8, file: &TableFile) -> Option
 
 /// The room for the packets of a load that the owner of the table in the row asks for.
 fn load_room(tables: &Tables, row: u8) -> usize
-    requires { IsSome (table_at tables.now row) }
     ensures { ForSome (table_at tables.now row) (λ t. result ≡ load_room t) }
 {
-    let Some(table) = tables.row(row) else {
-        unreachable!();
+    let judges = match tables.row(row) {
+        Some(table) => table.validator.is_some(),
+        None => false,
     };
-    copy_room(tables, row) + event_room(table.validator.is_some()) + EVENT_LENGTH
+    copy_room(tables, row) + event_room(judges) + EVENT_LENGTH
 }
 
 /// Takes the room for the rows that use the buffers, and for packets.
 fn take_room(tables: &Tables, reply: &mut Reply, row: u8) -> Result<(), Memory>
-    requires table { IsSome (table_at tables.now row) }
     requires bytes { reply.old.bytes.list ≡ [] }
     requires packets { reply.old.packets.list ≡ [] }
-    ensures bytes { OnOk result (4 ≤ reply.new.bytes.spare) }
-    ensures packets { OnOk result (IsRoomy tables.now row reply.new) }
+    ensures { OnOk result (IsRoomy tables.now row reply.new) }
 {
     reply.bytes.reserve(BUFFERS)?;
     reply.packets.reserve(load_room(tables, row))?;
@@ -136,8 +124,7 @@ fn take_room(tables: &Tables, reply: &mut Reply, row: u8) -> Result<(), Memory>
 fn judge<C: Validator>(desk: &mut Desk<C>, row: u8, image: &Image) -> Option<i32>
     requires table { IsSome (table_at desk.old.tables row) }
     requires kit { ForSome (table_at desk.old.tables row) (λ t. ForSome t.validator (MayAsk C.asked 1 desk.old.kit)) }
-    ensures told { ForSome (table_at desk.old.tables row) (λ t. is_some result ≡ is_some t.validator) }
-    ensures asked { ForSome (table_at desk.old.tables row) (λ t. WasAsked C.verdict C.asked desk.old.kit desk.new.kit (asks t.validator image.now) (result ∷ None ∷ [])) }
+    ensures judged { ForSome (table_at desk.old.tables row) (λ t. WasJudged C.Validator t.validator image.now result desk.old.kit desk.new.kit) }
     ensures same { desk.new ≡ record desk.old { kit = desk.new.kit } }
 {
     let number = validator(&desk.tables, row);

@@ -3,13 +3,10 @@
 ghost use Rattle.std.specs.Prelude.{◌≡◌, IsSome, IfOk};
 ghost use Rattle.std.specs.Option.{ForSome};
 ghost use Rattle.tbl_model.specs.Tables.{table_at};
-ghost use Rattle.tbl_model.specs.Given.{Given};
 ghost use Rattle.tbl_model.specs.AppLoads.{load_image_of, named_file_of};
-ghost use Rattle.desk.specs.Desk.{Rest, state_at};
-ghost use Rattle.desk.specs.Questions.{all_asked};
-ghost use Rattle.load_requests.specs.Asking.{judge_of};
+ghost use Rattle.load_requests.specs.Asking.{judge_of, WouldAsk};
 
-use crate::files::table_file;
+use crate::ground_loads::table_file;
 use crate::owner_loads::{closed_refusal, file_refusal, image_refusal};
 use desk::{Desk, Question, Questions, validator};
 use tbl_kinds::{Answer, Bytes, Memory, Name64};
@@ -18,7 +15,6 @@ use tbl_registry::Tables;
 
 /// The function of the table of a row, if nothing refuses the load.
 fn judge_of(tables: &Tables, row: u8, refusal: Option<Answer>) -> Option<u8>
-    requires { IsSome (table_at tables.now row) }
     ensures { ForSome (table_at tables.now row) (λ t. result ≡ judge_of refusal t.validator) }
 {
     match refusal {
@@ -34,8 +30,7 @@ pub fn load_image_asks<C: Validator>(
     image: &[u8],
 ) -> Result<Questions, Memory>
     requires table { IsSome (table_at desk.now.tables row) }
-    ensures asks { IfOk result (λ it. (rest : Rest) (given : Given)
-        → ForSome (table_at desk.now.tables row) (λ t. (load_image_of (state_at rest desk.now) image.now given row t).questions ≡ all_asked it)) }
+    ensures asks { IfOk result (WouldAsk desk.now row (λ s given t. load_image_of s image.now given row t)) }
 {
     let refusal = image_refusal(&desk.tables, row, image.len());
     let Some(number) = judge_of(&desk.tables, row, refusal) else {
@@ -52,8 +47,7 @@ pub fn load_file_asks<C: Validator>(
     file: &Name64,
 ) -> Result<Questions, Memory>
     requires table { IsSome (table_at desk.old.tables row) }
-    ensures asks { IfOk result (λ it. (rest : Rest) (given : Given)
-        → ForSome (table_at desk.old.tables row) (λ t. (named_file_of (state_at rest desk.old) file.now given row t).questions ≡ all_asked it)) }
+    ensures asks { IfOk result (WouldAsk desk.old row (λ s given t. named_file_of s file.now given row t)) }
     ensures same { desk.new ≡ desk.old }
 {
     if closed_refusal(&desk.tables, row).is_some() {

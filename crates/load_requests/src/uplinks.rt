@@ -2,7 +2,7 @@
 
 ghost use Rattle.std.specs.Prelude.{◌≡◌, IfOk, OnErr};
 ghost use Rattle.tbl_model.specs.State.{State};
-ghost use Rattle.tbl_model.specs.Effects.{answered, answered_left};
+ghost use Rattle.tbl_model.specs.Effects.{answered_left};
 ghost use Rattle.tbl_model.specs.Uplinks.{file_effect};
 
 use file_drawer::{Contents, Drawer, PutFault};
@@ -11,29 +11,8 @@ use tbl_kinds::{Answer, Memory, Status, Uplink};
 /// The most bytes of a file.
 const FILE_LIMIT: usize = 32_768;
 
-/// Puts a file into the drawer, or answers why not. Memory is taken last, when nothing else refuses the file.
-fn put(drawer: &mut Drawer, file: &mut Uplink) -> Result<Status, Memory>
-    ensures effect { IfOk result (λ status. (s : State) → s.drawer ≡ drawer.old
-        → file_effect s file.old.name file.old.bytes ≡ record (answered s status 0) { next = record s { drawer = drawer.new } }) }
-    ensures file { file.new ≡ file.old }
-    ensures err { OnErr result (drawer.new ≡ drawer.old) }
-{
-    let name = file.name();
-    if !name.is_name() {
-        return Ok(Status::ERR_BAD_NAME);
-    }
-    if file.bytes().len() > FILE_LIMIT {
-        return Ok(Status::ERR_FILE_TOO_LARGE);
-    }
-    let contents = Contents::uplinked(file)?;
-    match drawer.put(&name, contents) {
-        Ok(_) => Ok(Status::SUCCESS),
-        Err(PutFault::Full) => Ok(Status::ERR_DRAWER_FULL),
-        Err(PutFault::Memory) => Err(Memory),
-    }
-}
-
-/// The ground uplinks a file. The history and the drawer have many bytes in the same memory.
+/// The ground uplinks a file: it is put into the drawer, or the answer says why not. Memory is taken last, when nothing else refuses the
+/// file. The history and the drawer have many bytes in the same memory.
 #[inline(never)]
 pub fn file(drawer: &mut Drawer, file: &mut Uplink) -> Result<Answer, Memory>
     ensures effect { IfOk result (λ answer. (s : State) → s.drawer ≡ drawer.old
@@ -41,6 +20,17 @@ pub fn file(drawer: &mut Drawer, file: &mut Uplink) -> Result<Answer, Memory>
     ensures file { file.new ≡ file.old }
     ensures err { OnErr result (drawer.new ≡ drawer.old) }
 {
-    let status = put(drawer, file)?;
-    Ok(Answer::plain(status))
+    let name = file.name();
+    if !name.is_name() {
+        return Ok(Answer::plain(Status::ERR_BAD_NAME));
+    }
+    if file.bytes().len() > FILE_LIMIT {
+        return Ok(Answer::plain(Status::ERR_FILE_TOO_LARGE));
+    }
+    let contents = Contents::uplinked(file)?;
+    match drawer.put(&name, contents) {
+        Ok(_) => Ok(Answer::plain(Status::SUCCESS)),
+        Err(PutFault::Full) => Ok(Answer::plain(Status::ERR_DRAWER_FULL)),
+        Err(PutFault::Memory) => Err(Memory),
+    }
 }

@@ -45,7 +45,7 @@ returns g c =
     let why : None ≡ load_refusal c.args.desk.now.tables c.in-Some.table.row t.0 file.offset (length file.image) = rw c.in-Ok.ensures.count (c.in_default-load_refusal.ensures t.0 t.1) in
     record {
       served = quietly [] (Some c.in-Some.table)
-          (λ rest given. let s = state_at rest c.args.desk.now in rw (c.plain-2.ensures.status, c.plain-2.ensures.detail, c.set_file.ensures, c.in_ok-fill.ensures.ok)
+          (λ rest given. let s = state_at rest c.args.desk.now in rw (c.set_file.ensures, c.in_ok-fill.ensures.ok)
           (ap Some (load_by s c.in-Some.table t.0 t.1 c.args.file.now file (λ effect. c.in-Ok.ensures.ok s effect refl refl) (λ effect. c.in-Some.ensures.found s effect refl) None why)))
           refl (c.in_ok-reserve.ensures.bytes ∙ c.requires.empty.bytes) (rw (c.name_table-2.ensures, c.requires.empty.report) refl) (omega arith) c.requires.empty.packets c.requires.empty.event;
     }

@@ -23,13 +23,13 @@ pub returns-in-Some-file_refusal : goal.returns-in-Some-file_refusal
 returns-in-Some-file_refusal g c =
     let t = some_is (table_at c.args.desk.now.tables c.args.row) c.requires.table in
     let copy = ap copy_room t.1 in
-    let room = c.in_ok-take_room.ensures.packets.room t.0 t.1 in
+    let room = c.in_ok-take_room.ensures.room t.0 t.1 in
     record {
       served = quietly c.put_users.new.bytes.list None
           (λ rest given. let s = state_at rest c.args.desk.now in
           rw (t.1, c.put_users.ensures.bytes) (ap Some (file_refused s c.args.file.now given c.args.row t.0 (c.in_default.ensures t.0 t.1) (with_image c.in-Ok.read.0 c.in-Ok.read.1.now) (λ effect. c.in-Ok.ensures.ok s effect refl refl)
           c.in-Some-file_refusal.answer (c.in-Some-file_refusal.ensures c.in-Ok.read.1.now c.in-Ok.ensures.count t.0 t.1))))
-          refl refl c.requires.empty.report c.put_users.ensures.len c.in_ok-take_room.ensures.packets.packets (omega (arith, copy, room));
+          refl refl c.requires.empty.report c.put_users.ensures.len c.in_ok-take_room.ensures.packets (omega (arith, copy, room));
     }
 
 pub patched-requires-clause-within : goal.patched-requires-clause-within
@@ -48,5 +48,5 @@ returns g c =
       served = serves_so g.C.Validator c.args.row _ _ _ _ c.args.desk.now _ _ _ t.0 t.1
           (λ rest given. file_admitted (state_at rest c.args.desk.now) c.args.file.now given c.args.row t.0 (c.in_default.ensures t.0 t.1) (with_image c.in-Ok.read.0 c.in-Ok.read.1.now) (λ effect. c.in-Ok.ensures.ok _ effect refl refl)
           (c.in_default-file_refusal.ensures c.in-Ok.read.1.now c.in-Ok.ensures.count t.0 t.1) c.in_ok-image.image (c.in_ok-image.ensures.image t.0 t.1))
-          ((rw c.patched.ensures.same at c.admit.ensures.made) _ c.in_ok-take_room.ensures.packets);
+          ((rw c.patched.ensures.same at c.admit.ensures.made) _ c.in_ok-take_room.ensures);
     }

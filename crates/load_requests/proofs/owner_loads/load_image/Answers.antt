@@ -16,4 +16,4 @@ pub returns-clause-served : goal.returns-clause-served
 returns-clause-served g c =
     let t = some_is (table_at c.args.desk.now.tables c.args.row) c.requires.table in
     let none : image_refusal c.args.desk.now.tables c.args.row t.0 (length c.args.image.now.list) ≡ None = rw (← c.bytes.ensures) (sym (c.in_default.ensures t.0 t.1)) in
-    serves_so g.C.Validator c.args.row _ _ _ _ c.args.desk.now _ _ _ t.0 t.1 (λ rest given. rw (none, c.in_ok-image.ensures.image) refl) ((rw c.new_image.ensures.desk at c.admit.ensures.made) _ c.in_ok-take_room.ensures.packets)
+    serves_so g.C.Validator c.args.row _ _ _ _ c.args.desk.now _ _ _ t.0 t.1 (λ rest given. rw (none, c.in_ok-image.ensures.image) refl) ((rw c.new_image.ensures.desk at c.admit.ensures.made) _ c.in_ok-take_room.ensures)
