@@ -1,9 +1,10 @@
 -- Bytes as the pieces that they are read in.
-use Rattle.std.proofs.Common.{◌≡◌, ℕ, ◌+◌, ◌^◌, ◌<◌, ◌≤◌, List, ◌∷◌, ◌++◌, length, take, drop, refl, sym, ap, ◌∙◌, append_assoc, add-one, arith, inl, inr}
+use Rattle.std.proofs.Common.{◌≡◌, ℕ, ◌+◌, ◌-◌, ◌^◌, ◌<◌, ◌≤◌, List, ◌∷◌, ◌++◌, length, take, drop, refl, sym, ap, ◌∙◌, append_assoc, add-one, arith, inl, inr, lit≤}
 use Rattle.std.proofs.lemmas.Bool.{cases_lt}
 use Rattle.std.proofs.lemmas.List.{get_or-take, get_or-drop, get_or_past, length-take, length-drop, take-append-drop, drop-drop, take_at, drop_at}
 use Rattle.std.proofs.lemmas.Nat.{be_bytes_2, be_bytes_4}
 use Rattle.std.proofs.Math.Seq.{drop-cons}
+use Rattle.byteorder.specs.Endian.{big_number}
 use Rattle.tbl_kinds.specs.Fields.{AreBytes}
 use Rattle.tbl_kinds.specs.Numbers.{two, four, piece, byte_at, two_at, four_at}
 
@@ -20,6 +21,13 @@ two_below place bytes fits = let p = piece_fits place 2 bytes fits in omega (ari
 
 pub four_below : (place : ℕ) (bytes : List ℕ) → AreBytes bytes → four_at place bytes < 2 ^ 32
 four_below place bytes fits = let p = piece_fits place 4 bytes fits in omega (arith, p 0, p 1, p 2, p 3)
+
+-- a number that is read of the bytes from a place on is the one at the place
+pub number_at : (place : ℕ) (bytes : List ℕ) → place + 4 ≤ length bytes → big_number 4 (take (length bytes - place) (drop place bytes)) ≡ four_at place bytes
+number_at place bytes le =
+    let same : (i : ℕ) → i < 4 → byte_at i (piece place 4 bytes) ≡ byte_at i (take (length bytes - place) (drop place bytes)) =
+    λ i lt. get_or-take 4 (drop place bytes) i 0 lt ∙ sym (get_or-take (length bytes - place) (drop place bytes) i 0 (omega (arith, lt, le))) in
+    omega (arith, same 0 (lit≤ tt), same 1 (lit≤ tt), same 2 (lit≤ tt), same 3 (lit≤ tt))
 
 -- ---- the bytes from a place on, as a piece and the rest
 

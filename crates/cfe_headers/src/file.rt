@@ -7,7 +7,8 @@ ghost use Rattle.cfe_headers.specs.Appends.{Appends};
 ghost use Rattle.cfe_headers.specs.FileHeaders.{header_of};
 ghost use Rattle.cfe_headers.specs.Readings.{GivesHeader};
 
-use tbl_kinds::{Bytes, u32_at};
+use byteorder::{BigEndian, ByteOrder};
+use tbl_kinds::Bytes;
 use thiserror::Error;
 
 /// The content type of cFE's files, the letters `cFE1` (cFE's `CFE_FS_FILE_CONTENT_ID`).
@@ -55,19 +56,19 @@ pub fn read_file_header(bytes: &[u8]) -> Result<FileHeader, HeaderFault>
     if bytes.len() < HEADER_LENGTH {
         return Err(HeaderFault::Short);
     }
-    if u32_at(bytes, 0) != CONTENT_TYPE {
+    if BigEndian::read_u32(bytes) != CONTENT_TYPE {
         return Err(HeaderFault::BadContent);
     }
     let mut description = [0; 32];
     description.copy_from_slice(&bytes[32..HEADER_LENGTH]);
     Ok(FileHeader {
-        subtype: u32_at(bytes, 4),
-        length: u32_at(bytes, 8),
-        spacecraft: u32_at(bytes, 12),
-        processor: u32_at(bytes, 16),
-        application: u32_at(bytes, 20),
-        seconds: u32_at(bytes, 24),
-        sub: u32_at(bytes, 28),
+        subtype: BigEndian::read_u32(&bytes[4..]),
+        length: BigEndian::read_u32(&bytes[8..]),
+        spacecraft: BigEndian::read_u32(&bytes[12..]),
+        processor: BigEndian::read_u32(&bytes[16..]),
+        application: BigEndian::read_u32(&bytes[20..]),
+        seconds: BigEndian::read_u32(&bytes[24..]),
+        sub: BigEndian::read_u32(&bytes[28..]),
         description,
     })
 }
