@@ -1,79 +1,94 @@
--- How many tables and open loads there are, when a row changes.
-use Rattle.std.proofs.Common.{◌≡◌, ◌<◌, ◌≤◌, ◌+◌, ◌-◌, ℕ, List, length, count_by, slice_index_or, slice_set, Bool, true, false, not, is_some, IsSome, Option, Some, None, refl, arith}
+-- How many tables, open loads and users of a shared working buffer there are, when a row changes.
+use Rattle.std.proofs.Common.{◌≡◌, ◌<◌, ◌≤◌, ◌+◌, ◌-◌, ℕ, List, length, count_by, slice_index_or, slice_set, Bool, true, false, is_some, Option, Some, None, refl, arith}
+use Rattle.std.proofs.lemmas.List.Sums.{count_by-le-length}
 use mir.Val.{bool_byte}
 use Rattle.tbl_model.specs.State.{Table}
-use Rattle.tbl_model.specs.Tables.{has_load}
+use Rattle.tbl_model.specs.Tables.{has_load, uses_buffer}
 use Rattle.access_desc.specs.declared.handle_view.HandleView.{HandleView}
-use Rattle.working_buffers.specs.Places.{LentBuffer}
-use Rattle.tbl_registry.specs.declared.tables.Counts.{Counts}
-use Rattle.tbl_registry.specs.Lent.{one_if}
-use Rattle.tbl_registry.specs.Sound.{IsSound, AreCounted, IsKept}
+use Rattle.tbl_registry.specs.declared.tables.counts.Counts.{Counts}
+use Rattle.tbl_registry.specs.Counts.{AreCounted, CanCount, IsCounted, counted_with, counted_without, one_if}
+use Rattle.tbl_registry.specs.Sound.{IsSound, IsKept}
 use Rattle.tbl_registry.proofs.Places.{count_set, within_places}
 use Rattle.tbl_registry.proofs.Changes.{FoundRow}
 
-counted_set : (rows : List (Option Table)) (n : ℕ) (was new : Option Table) (old counts : Counts) → slice_index_or rows n None ≡ was → n < length rows → AreCounted rows old
-    → counts.tables + one_if (is_some was) ≡ old.tables + one_if (is_some new) → counts.loads + one_if (has_load was) ≡ old.loads + one_if (has_load new) → AreCounted (slice_set rows n new) counts
-counted_set rows n was new old counts there within counted tables loads =
-    let a = rw there at (count_set is_some rows n new None within) in
-    let b = rw there at (count_set has_load rows n new None within) in
-    let c = counted.tables in
-    let d = counted.loads in record { tables = omega (arith, a, c, tables); loads = omega (arith, b, d, loads) }
-
-pub one_some : {X : Type 0} (o : Option X) → IsSome o → one_if (is_some o) ≡ 1
-one_some None some = absurd (cc some)
-one_some (Some x) some = refl
-
-byte_one : (b : Bool) → bool_byte b ≡ one_if b
+pub byte_one : (b : Bool) → bool_byte b ≡ one_if b
 byte_one true = refl
 byte_one false = refl
 
--- a load opens, or takes the place of one
-pub opened : {X : Type 0} (loads : ℕ) (load : Option X) (had : Bool) → had ≡ is_some load → loads + bool_byte (not had) + one_if (is_some load) ≡ loads + 1
-opened loads load had is = rw (← is) (by had) where
-  by : (b : Bool) → loads + bool_byte (not b) + one_if b ≡ loads + 1
-  by true = omega arith
-  by false = omega arith
+-- ---- those that pass a test, which no free row does
 
-module _ {rows : List (Option Table)} {handles : List (Option HandleView)} {buffers : List (Option LentBuffer)} {n : ℕ} {t : Table} (row : FoundRow rows handles buffers n t) {counts : Counts} (counted : AreCounted rows counts) where
+module _ (p : Option Table → Bool) (none : p None ≡ false) (rows : List (Option Table)) (n : ℕ) (was : Option Table) (there : slice_index_or rows n None ≡ was) (within : n < length rows) (old : ℕ) (counted : old ≡ count_by p rows) where
+  counts_in : one_if (p was) ≤ old
+  counts_in = let a = rw (there, none) at (count_set p rows n None None within) in omega (arith, a, counted)
+
+  recount : (new : Option Table) → old - one_if (p was) + one_if (p new) ≡ count_by p (slice_set rows n new)
+  recount new = let a = rw there at (count_set p rows n new None within) in let b = counts_in in omega (arith, a, b, counted)
+
+  same_count : (new : Option Table) → p new ≡ p was → old ≡ count_by p (slice_set rows n new)
+  same_count new same = let a = rw (there, same) at (count_set p rows n new None within) in omega (arith, a, counted)
+
+-- ---- all that is counted
+
+pub can_count : (rows : List (Option Table)) (counts : Counts) → AreCounted rows counts → length rows ≡ 128 → CanCount counts
+can_count rows counts counted all = record {
+  tables = let a = count_by-le-length is_some rows in let b = counted.tables in omega (arith, a, b, all);
+  loads = let a = count_by-le-length has_load rows in let b = counted.loads in omega (arith, a, b, all);
+  users = let a = count_by-le-length uses_buffer rows in let b = counted.users in omega (arith, a, b, all);
+}
+
+-- a table comes into a free row
+pub newly_counted : (rows : List (Option Table)) (n : ℕ) (t : Table) (counts : Counts) → slice_index_or rows n None ≡ None → n < length rows → AreCounted rows counts → AreCounted (slice_set rows n (Some t)) (counted_with t counts)
+newly_counted rows n t counts free within counted = record {
+  tables = let a = recount is_some refl rows n None free within counts.tables counted.tables (Some t) in omega (arith, a);
+  loads = let a = recount has_load refl rows n None free within counts.loads counted.loads (Some t) in omega (arith, a);
+  users = let a = recount uses_buffer refl rows n None free within counts.users counted.users (Some t) in omega (arith, a);
+}
+
+module _ {rows : List (Option Table)} {handles : List (Option HandleView)} {n : ℕ} {t : Table} (row : FoundRow rows handles n t) {counts : Counts} (counted : AreCounted rows counts) where
   within : n < length rows
   within = within_places rows n t row.there
 
-  -- it keeps its load, or stays without one
-  pub kept : {handles' : List (Option HandleView)} {buffers' : List (Option LentBuffer)} (u : Table) → IsSound (slice_set rows n (Some u)) handles' buffers' → is_some u.load ≡ is_some t.load → IsKept (slice_set rows n (Some u)) handles' buffers' counts
-  kept u sound same = record { sound = sound; counted = counted_set rows n (Some t) (Some u) counts counts row.there within counted refl (rw same refl) }
+  pub is_counted : IsCounted t counts
+  is_counted = record {
+    tables = let a = counts_in is_some refl rows n (Some t) row.there within counts.tables counted.tables in omega (arith, a);
+    loads = counts_in has_load refl rows n (Some t) row.there within counts.loads counted.loads;
+    users = counts_in uses_buffer refl rows n (Some t) row.there within counts.users counted.users;
+  }
 
-  -- its load opens or closes
-  pub load_kept : {handles' : List (Option HandleView)} {buffers' : List (Option LentBuffer)} (u : Table) (loads : ℕ) → IsSound (slice_set rows n (Some u)) handles' buffers'
-      → loads + one_if (is_some t.load) ≡ counts.loads + one_if (is_some u.load) → IsKept (slice_set rows n (Some u)) handles' buffers' (record counts { loads = loads })
-  load_kept u loads sound settled = record { sound = sound; counted = counted_set rows n (Some t) (Some u) counts (record counts { loads = loads }) row.there within counted refl settled }
+  pub room_again : CanCount (counted_without t counts)
+  room_again = let c = can_count rows counts counted row.sound.all_rows in record {
+    tables = let a = c.tables in omega (arith, a);
+    loads = let a = c.loads in omega (arith, a);
+    users = let a = c.users in omega (arith, a);
+  }
 
-  -- it is counted, and so is its load
-  pub is_counted : 0 < counts.tables
-  is_counted =
-      let a = rw row.there at (count_set is_some rows n None None within) in
-      let b = counted.tables in
-      omega (arith, a, b)
+  -- it changes, or keeps its load and its buffer, or goes
+  pub recounted : {handles' : List (Option HandleView)} (u : Table) → IsSound (slice_set rows n (Some u)) handles' → IsKept (slice_set rows n (Some u)) handles' (counted_with u (counted_without t counts))
+  recounted u sound = record {
+    sound = sound;
+    counted = record {
+      tables = recount is_some refl rows n (Some t) row.there within counts.tables counted.tables (Some u);
+      loads = recount has_load refl rows n (Some t) row.there within counts.loads counted.loads (Some u);
+      users = recount uses_buffer refl rows n (Some t) row.there within counts.users counted.users (Some u);
+    };
+  }
 
-  pub load_is_counted : one_if (is_some t.load) ≤ counts.loads
-  load_is_counted =
-      let a = rw row.there at (count_set has_load rows n None None within) in
-      let b = counted.loads in
-      omega (arith, a, b)
+  pub kept : {handles' : List (Option HandleView)} (u : Table) → IsSound (slice_set rows n (Some u)) handles' → is_some u.load ≡ is_some t.load → uses_buffer (Some u) ≡ uses_buffer (Some t) → IsKept (slice_set rows n (Some u)) handles' counts
+  kept u sound load uses = record {
+    sound = sound;
+    counted = record {
+      tables = same_count is_some refl rows n (Some t) row.there within counts.tables counted.tables (Some u) refl;
+      loads = same_count has_load refl rows n (Some t) row.there within counts.loads counted.loads (Some u) load;
+      users = same_count uses_buffer refl rows n (Some t) row.there within counts.users counted.users (Some u) uses;
+    };
+  }
 
-  -- its load closes
-  pub closed : IsSome t.load → counts.loads - 1 + one_if (is_some t.load) ≡ counts.loads + 0
-  closed loaded = let a = load_is_counted in let b = one_some t.load loaded in omega (arith, a, b)
-
-  -- it goes, and its load
-  pub removed_kept : {handles' : List (Option HandleView)} {buffers' : List (Option LentBuffer)} (had : Bool) → had ≡ is_some t.load → IsSound (slice_set rows n None) handles' buffers'
-      → IsKept (slice_set rows n None) handles' buffers' (record { tables = counts.tables - 1; loads = counts.loads - bool_byte had })
-  removed_kept had is sound =
-      let after : Counts = record { tables = counts.tables - 1; loads = counts.loads - bool_byte had } in
-      let a = load_is_counted in
-      let b = is_counted in
-      record { sound = sound; counted = counted_set rows n (Some t) None counts after row.there within counted (omega (arith, b)) (rw (← is) (omega (arith, rw (← is) at a, byte_one had))) }
-
--- a table comes into a free row
-pub added_kept : {rows : List (Option Table)} {handles' : List (Option HandleView)} {buffers' : List (Option LentBuffer)} (n : ℕ) (t : Table) (counts : Counts) → slice_index_or rows n None ≡ None → n < length rows → AreCounted rows counts
-    → IsSound (slice_set rows n (Some t)) handles' buffers' → t.load ≡ None → IsKept (slice_set rows n (Some t)) handles' buffers' (record counts { tables = counts.tables + 1 })
-added_kept {rows = rows} n t counts free within counted sound closed = record { sound = sound; counted = counted_set rows n None (Some t) counts (record counts { tables = counts.tables + 1 }) free within counted (omega arith) (rw closed refl) }
+  pub removed_kept : {handles' : List (Option HandleView)} → IsSound (slice_set rows n None) handles' → IsKept (slice_set rows n None) handles' (counted_without t counts)
+  removed_kept sound = record {
+    sound = sound;
+    counted = record {
+      tables = let a = recount is_some refl rows n (Some t) row.there within counts.tables counted.tables None in omega (arith, a);
+      loads = let a = recount has_load refl rows n (Some t) row.there within counts.loads counted.loads None in omega (arith, a);
+      users = let a = recount uses_buffer refl rows n (Some t) row.there within counts.users counted.users None in omega (arith, a);
+    };
+  }

@@ -1,5 +1,5 @@
 -- A table goes, and its handles lead to none.
-use Rattle.std.proofs.Common.{◌≡◌, ◌≢◌, ℕ, List, [], ◌∷◌, map, slice_index_or, slice_set, Bool, true, false, cond, Option, Some, None, refl, ap, sym, ◌∙◌}
+use Rattle.std.proofs.Common.{◌≡◌, ◌≢◌, ◌+◌, ◌≤◌, ℕ, List, [], ◌∷◌, map, slice_index_or, slice_set, Bool, true, false, cond, Option, Some, None, refl, ap, sym, ◌∙◌, arith}
 use Rattle.std.specs.Option.{option_map}
 use Rattle.std.proofs.lemmas.List.{length-set, get_or-set_other}
 use Rattle.tbl_model.specs.State.{Table, Handle}
@@ -7,22 +7,19 @@ use Rattle.tbl_model.specs.Tables.{uses_buffer}
 use Rattle.tbl_model.specs.TableSteps.{orphaned, remove}
 use Rattle.access_desc.specs.declared.handle_view.HandleView.{HandleView}
 use Rattle.access_desc.specs.Steps.{is_of, after_end}
-use Rattle.working_buffers.specs.Places.{LentBuffer}
 use Rattle.tbl_registry.specs.Pins.{Leads}
-use Rattle.tbl_registry.specs.Lent.{IsSettled}
 use Rattle.tbl_registry.specs.Seen.{tables_of, handle_of}
 use Rattle.tbl_registry.specs.Sound.{IsSound}
-use Rattle.tbl_registry.proofs.Places.{within_places, AtEachPlace-map}
+use Rattle.tbl_registry.proofs.Places.{count_set, within_places, AtEachPlace-map}
 use Rattle.tbl_registry.proofs.Named.{named_removed}
 use Rattle.tbl_registry.proofs.Pins.{tables_with, handle_other, that_is, here_of}
-use Rattle.tbl_registry.proofs.Lent.{lent_settled}
 use Rattle.tbl_registry.proofs.Changes.{FoundRow}
 
-module _ {rows : List (Option Table)} {handles : List (Option HandleView)} {buffers : List (Option LentBuffer)} {row : ℕ} {t : Table} (stood : FoundRow rows handles buffers row t) where
+module _ {rows : List (Option Table)} {handles : List (Option HandleView)} {row : ℕ} {t : Table} (stood : FoundRow rows handles row t) where
   there : slice_index_or rows row None ≡ Some t
   there = stood.there
 
-  sound : IsSound rows handles buffers
+  sound : IsSound rows handles
   sound = stood.sound
 
   abbrev rows' : List (Option Table)
@@ -40,12 +37,12 @@ module _ {rows : List (Option Table)} {handles : List (Option HandleView)} {buff
       pins = λ pinned k of u is. (sound.leads n h at).pins pinned k of u (sym (get_or-set_other rows row k None None (not_here h isnt k of)) ∙ is);
     }
 
-  pub removed_sound : (buffers' : List (Option LentBuffer)) → IsSettled buffers buffers' row (uses_buffer (Some t)) false → IsSound rows' (map (option_map (after_end row)) handles) buffers'
-  removed_sound buffers' settled = record {
+  pub removed_sound : IsSound rows' (map (option_map (after_end row)) handles)
+  removed_sound = record {
     all_rows = simp length-set sound.all_rows;
     named = named_removed rows row t there sound.named;
     leads = AtEachPlace-map (Leads rows') (after_end row) handles ended_leads;
-    lent = lent_settled buffers buffers' rows row None (within_places rows row t there) sound.lent (rw there settled);
+    few = let a = count_set uses_buffer rows row None None (within_places rows row t there) in let few = sound.few in omega (arith, a, few);
   }
 
   orphan_seen : (h : HandleView) → Some (handle_of rows' (after_end row h)) ≡ orphaned row (Some (handle_of rows h))

@@ -1,5 +1,5 @@
 -- The rows that use the shared working buffers, collected from the last one on.
-use Rattle.std.proofs.Common.{◌≡◌, ◌<◌, ◌≤◌, ◌+◌, ℕ, suc, List, [], ◌∷◌, length, take, drop, count_by, slice_index_or, Bool, true, false, cond, Option, Some, refl, ap, ◌∙◌, arith}
+use Rattle.std.proofs.Common.{◌≡◌, ◌<◌, ◌≤◌, ◌+◌, ℕ, suc, List, [], ◌∷◌, length, take, drop, count_by, slice_index_or, Bool, true, false, cond, replicate, Option, Some, None, refl, ap, ◌∙◌, arith}
 use Rattle.std.proofs.lemmas.List.Sums.{sum_by-cons, sum_by-take-drop}
 use Rattle.std.proofs.Math.Seq.{drop-cons}
 use Rattle.tbl_model.specs.State.{Table}
@@ -16,6 +16,13 @@ rows_count (row ∷ rows) k =
       by : (b : Bool) (rest : List ℕ) → count_by uses_buffer (row ∷ rows) ≡ cond b 1 0 + count_by uses_buffer rows → length rest ≡ count_by uses_buffer rows → length (cond b (k ∷ rest) rest) ≡ count_by uses_buffer (row ∷ rows)
       by true rest a i = omega (arith, a, i)
       by false rest a i = omega (arith, a, i)
+
+-- none of them, if none does
+pub none_in_use : (rows : List (Option Table)) → count_by uses_buffer rows ≡ 0 → replicate 4 None ≡ padded (rows_from 0 rows)
+none_in_use rows none = by (rows_from 0 rows) (rows_count rows 0 ∙ none) where
+  by : (found : List ℕ) → length found ≡ 0 → replicate 4 None ≡ padded found
+  by [] _ = refl
+  by (row ∷ found) some = absurd (cc some)
 
 -- one more goes to the front
 padded_front : (rows : List ℕ) (row : ℕ) → length (row ∷ rows) ≤ 4 → Some row ∷ take 3 (padded rows) ≡ padded (row ∷ rows)

@@ -1,12 +1,10 @@
 pub mod Add
-pub mod Ascending
 pub mod Spares
 pub mod Start
 pub mod Changes
 pub mod Counted
 pub mod Ends
 pub mod InUse
-pub mod Lent
 pub mod Named
 pub mod NewImages
 pub mod Owners

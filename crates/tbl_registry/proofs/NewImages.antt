@@ -1,33 +1,30 @@
 -- A table takes a new image: its handles pin the image before, which stays for them.
-use Rattle.std.proofs.Common.{◌≡◌, ◌==◌, ◌+◌, ◌-◌, ◌<◌, not, ◌&&◌, ℕ, List, length, map, position, slice_index_or, slice_set, Bool, true, false, cond, is_some, IsSome, Option, Some, None, refl, ap, sym, ◌∙◌, subst, arith}
-use Rattle.std.specs.Option.{option_map}
+use Rattle.std.proofs.Common.{◌≡◌, ◌==◌, ◌+◌, ◌-◌, ◌<◌, not, ◌&&◌, ℕ, List, [], length, map, count_by, position, slice_index_or, slice_set, Bool, true, false, cond, is_some, IsSome, Option, Some, None, refl, ap, sym, ◌∙◌, subst, arith}
+use Rattle.std.specs.Option.{option_map, option_map_or}
 use Rattle.std.specs.List.{list_any}
 use Rattle.std.proofs.lemmas.Bool.{and_parts}
 use Rattle.std.proofs.lemmas.Bool.Decides.{nat_tests}
 use Rattle.std.proofs.lemmas.Option.{same_Some}
 use Rattle.std.proofs.lemmas.List.{get_or-set_same}
-use Rattle.tbl_model.specs.State.{Table, Handle}
+use Rattle.tbl_model.specs.State.{Load, Table, Handle}
 use Rattle.tbl_model.specs.Tables.{is_double, uses_buffer}
 use Rattle.tbl_model.specs.TableSteps.{locker, with_table, with_image, load_image, put, activate, pins as image_pins}
 use Rattle.access_desc.specs.declared.handle_view.HandleView.{HandleView}
 use Rattle.access_desc.specs.Steps.{has, is_of, pins, pins_old, after_new_image}
-use Rattle.working_buffers.specs.Places.{LentBuffer}
 use Rattle.tbl_registry.specs.Rows.{IsTable}
 use Rattle.tbl_registry.specs.Pins.{AtEachPlace, Pins, Leads}
-use Rattle.tbl_registry.specs.Lent.{IsSettled}
-use Rattle.tbl_registry.specs.Seen.{tables_of, handle_of, with_next}
+use Rattle.tbl_registry.specs.Seen.{tables_of, handle_of, is_kept, with_next}
 use Rattle.tbl_registry.specs.Sound.{IsSound}
 use Rattle.tbl_registry.proofs.Places.{within_places, position-seen, any_is_found, map-through, AtEachPlace-map}
 use Rattle.tbl_kinds.proofs.PositionLaws.{position-None}
 use Rattle.tbl_registry.proofs.Pins.{PinsOf, pins_of, leads_on, tables_with, handle_other, pins_last, of_row, no_old_pin, no_pin, pins_here}
-use Rattle.tbl_registry.proofs.Changes.{FoundRow, changed_sound}
-use Rattle.tbl_registry.proofs.Lent.{settled_same}
+use Rattle.tbl_registry.proofs.Changes.{FoundRow, changed_sound, gives_back}
 
-module _ {rows : List (Option Table)} {handles : List (Option HandleView)} {buffers : List (Option LentBuffer)} {row : ℕ} {t : Table} (stood : FoundRow rows handles buffers row t) (free : locker (tables_of rows handles) row t ≡ None) where
+module _ {rows : List (Option Table)} {handles : List (Option HandleView)} {row : ℕ} {t : Table} (stood : FoundRow rows handles row t) (free : locker (tables_of rows handles) row t ≡ None) where
   there : slice_index_or rows row None ≡ Some t
   there = stood.there
 
-  sound : IsSound rows handles buffers
+  sound : IsSound rows handles
   sound = stood.sound
 
   pinned : PinsOf row t handles
@@ -44,7 +41,7 @@ module _ {rows : List (Option Table)} {handles : List (Option HandleView)} {buff
   moved = map (option_map (after_new_image row)) handles
 
   abbrev pub stays : Bool
-  stays = is_some (position (has (pins_old row)) moved)
+  stays = is_kept row moved
 
   old_after : (h : HandleView) → pins_old row (after_new_image row h) ≡ pins row h
   old_after h = by (pins row h) refl where
@@ -145,10 +142,17 @@ module _ {rows : List (Option Table)} {handles : List (Option HandleView)} {buff
         }
         each false isnt = leads n h at
 
-      moved_sound : (buffers' : List (Option LentBuffer)) → u.name ≡ t.name → IsSettled buffers buffers' row (uses_buffer (Some t)) (uses_buffer (Some u)) → IsSound rows' moved buffers'
-      moved_sound buffers' name settled = changed_sound stood u moved buffers' name (AtEachPlace-map (Leads rows') (after_new_image row) handles moved_leads) settled
+      moved_sound : u.name ≡ t.name → (uses_buffer (Some t) ≡ false → uses_buffer (Some u) ≡ true → count_by uses_buffer rows < 4) → IsSound rows' moved
+      moved_sound name room = changed_sound stood u moved name (AtEachPlace-map (Leads rows') (after_new_image row) handles moved_leads) room
 
   -- ---- put, and the load that goes active
+
+  -- the image that closing the load gives
+  pub loaded_is : (image : List ℕ) → Some image ≡ option_map (λ (load : Load). load.image) t.load → image ≡ load_image t
+  loaded_is image is = by t.load is where
+    by : (load : Option Load) → Some image ≡ option_map (λ (load : Load). load.image) load → image ≡ option_map_or (λ (load : Load). load.image) load []
+    by None none = absurd (cc none)
+    by (Some load) same = cc same
 
   abbrev pub activated : Table
   activated = record (with_next t (load_image t) stays) { load = None; activation = false }
@@ -159,8 +163,8 @@ module _ {rows : List (Option Table)} {handles : List (Option HandleView)} {buff
   pub activate_seen : tables_of (slice_set rows row (Some activated)) moved ≡ activate row (tables_of rows handles)
   activate_seen = moved_seen activated refl ∙ rw there (ap (λ (u : Table). with_table row (record u { load = None; activation = false }) (tables_of rows handles)) (next_is (load_image t)))
 
-  pub put_sound : (image : List ℕ) → IsTable t → t.load ≡ None → IsSound (slice_set rows row (Some (with_next t image stays))) moved buffers
-  put_sound image table closed = moved_sound (with_next t image stays) refl table (before_is (is_double t) refl) closed buffers refl (settled_same buffers row (uses_buffer (Some t)))
+  pub put_sound : (image : List ℕ) → IsTable t → t.load ≡ None → IsSound (slice_set rows row (Some (with_next t image stays))) moved
+  put_sound image table closed = moved_sound (with_next t image stays) refl table (before_is (is_double t) refl) closed refl (λ had has. absurd (cc (had, has)))
 
-  pub activate_sound : (buffers' : List (Option LentBuffer)) → IsTable t → IsSettled buffers buffers' row (uses_buffer (Some t)) (uses_buffer (Some activated)) → IsSound (slice_set rows row (Some activated)) moved buffers'
-  activate_sound buffers' table settled = moved_sound activated refl table (before_is (is_double t) refl) refl buffers' refl settled
+  pub activate_sound : IsTable t → IsSound (slice_set rows row (Some activated)) moved
+  activate_sound table = moved_sound activated refl table (before_is (is_double t) refl) refl refl (gives_back stood activated refl refl refl)

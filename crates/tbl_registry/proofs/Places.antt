@@ -10,7 +10,7 @@ use Rattle.std.proofs.lemmas.List.Sums.{sum_by-set, sum_by-cons}
 use Rattle.tbl_kinds.proofs.PositionLaws.{position-None}
 use Rattle.access_desc.specs.Steps.{changed_at}
 use Rattle.tbl_registry.specs.Pins.{AtEachPlace}
-use Rattle.tbl_registry.specs.Lent.{one_if}
+use Rattle.tbl_registry.specs.Counts.{one_if}
 
 -- nothing is at a free place
 pub get_or-replicate_None : {X : Type 0} (n k : ℕ) → slice_index_or (replicate {A = Option X} n None) k None ≡ None
@@ -84,14 +84,6 @@ any_is_found {X} q xs = rw (found_at (position_or_len q xs) (length xs)) (by xs)
 
 pub none_passes : {X : Type 0} (xs : List (Option X)) (test : Option X → Bool) → test None ≡ false → position test xs ≡ None → AtEachPlace (λ x. test (Some x) ≡ false) xs
 none_passes xs test none free n x at = rw at at (position-None test xs n None free none)
-
--- none counts if there is no first
-pub none_counted : {X : Type 0} (p : Option X → Bool) (xs : List (Option X)) → p None ≡ false → position p xs ≡ None → count_by p xs ≡ 0
-none_counted {X} p xs none free = by xs (none_passes xs p none free) where
-  by : (xs : List (Option X)) → AtEachPlace (λ x. p (Some x) ≡ false) xs → count_by p xs ≡ 0
-  by [] fails = refl
-  by (None ∷ xs) fails = sum_by-cons (λ x. cond (p x) 1 0) None xs ∙ rw (none, by xs (λ k. fails (suc k))) refl
-  by (Some x ∷ xs) fails = sum_by-cons (λ x. cond (p x) 1 0) (Some x) xs ∙ rw (fails zero x refl, by xs (λ k. fails (suc k))) refl
 
 -- ---- each place changed
 

@@ -8,21 +8,19 @@ use Rattle.std.proofs.lemmas.Bool.Decides.{nat_tests}
 use Rattle.tbl_model.specs.State.{Table, Handle, Tables}
 use Rattle.tbl_model.specs.TableSteps.{access_of, handle_at, new_handle, with_handle, with_table, give_back, give_back_by, drop_before}
 use Rattle.tbl_model.specs.AddressSteps.{get_address, release, read}
-use Rattle.tbl_model.specs.Tables.{uses_buffer}
 use Rattle.access_desc.specs.declared.handle_view.HandleView.{HandleView}
 use Rattle.access_desc.specs.Steps.{at_place, changed_at, has, pins_old, with_no_pin, new_handle as new_view}
-use Rattle.working_buffers.specs.Places.{LentBuffer}
 use Rattle.std.proofs.Math.ListN.{get_or-map}
 use Rattle.std.proofs.Math.Seq.{take-length}
-use Rattle.tbl_registry.specs.Pins.{Pins, Leads}
-use Rattle.tbl_registry.specs.Lending.{pinned_image, name_by, lent_at}
+use Rattle.tbl_registry.specs.Pins.{Pins, Leads, Leading}
+use Rattle.tbl_registry.specs.Rows.{IsTable}
+use Rattle.tbl_registry.specs.Lending.{pins_image, pinned_image, name_by, lent_at}
 use Rattle.tbl_registry.specs.declared.pin.Pin.{Pin}
 use Rattle.tbl_registry.specs.Sound.{IsSound}
-use Rattle.tbl_registry.specs.Seen.{tables_of, handle_of, with_last, drop_before_unless}
+use Rattle.tbl_registry.specs.Seen.{tables_of, handle_of, is_kept, with_last, drop_before_unless}
 use Rattle.tbl_registry.proofs.Places.{AtEachPlace-set, none_passes}
 use Rattle.tbl_registry.proofs.Pins.{PinsOf, pins_of, pins_here, tables_with, before_is_pinned}
 use Rattle.tbl_registry.proofs.Changes.{FoundRow, pins_sound, row_seen}
-use Rattle.tbl_registry.proofs.Lent.{settled_same}
 
 not_zero : (n : ℕ) → (n ≡ 0 → ⊥) → (n == 0) ≡ false
 not_zero n some = grind (arith, nat_tests)
@@ -33,15 +31,15 @@ leads_nowhere tables other n same none some = cc (rw (← same, none) at some)
 
 -- ---- the image before the last stays if a handle of the row pins it
 
-module _ {rows : List (Option Table)} {handles : List (Option HandleView)} {buffers : List (Option LentBuffer)} {row : ℕ} {t : Table} (stood : FoundRow rows handles buffers row t) where
+module _ {rows : List (Option Table)} {handles : List (Option HandleView)} {row : ℕ} {t : Table} (stood : FoundRow rows handles row t) where
   there : slice_index_or rows row None ≡ Some t
   there = stood.there
 
-  sound : IsSound rows handles buffers
+  sound : IsSound rows handles
   sound = stood.sound
 
   abbrev stays : Bool
-  stays = is_some (position (has (pins_old row)) handles)
+  stays = is_kept row handles
 
   kept_pins : PinsOf row (drop_before_unless stays t) handles
   kept_pins k g at of is = by (position (has (pins_old row)) handles) refl where
@@ -56,8 +54,8 @@ module _ {rows : List (Option Table)} {handles : List (Option HandleView)} {buff
       closed = p.closed;
     }
 
-  pub drop_before_sound : IsSound (slice_set rows row (Some (drop_before_unless stays t))) handles buffers
-  drop_before_sound = pins_sound stood (drop_before_unless stays t) buffers refl kept_pins (settled_same buffers row (uses_buffer (Some t)))
+  pub drop_before_sound : IsSound (slice_set rows row (Some (drop_before_unless stays t))) handles
+  drop_before_sound = pins_sound stood (drop_before_unless stays t) refl kept_pins (λ had has. absurd (cc (had, has)))
 
   pub drop_before_seen : tables_of (slice_set rows row (Some (drop_before_unless stays t))) handles ≡ with_table row (drop_before (tables_of rows handles).handles row t) (tables_of rows handles)
   drop_before_seen =
@@ -66,14 +64,14 @@ module _ {rows : List (Option Table)} {handles : List (Option HandleView)} {buff
 
 -- ---- a handle is given, and taken back
 
-module _ (rows : List (Option Table)) (handles : List (Option HandleView)) (buffers : List (Option LentBuffer)) (sound : IsSound rows handles buffers) (n : ℕ) where
+module _ (rows : List (Option Table)) (handles : List (Option HandleView)) (sound : IsSound rows handles) (n : ℕ) where
   place_seen : (place : Option HandleView) → tables_of rows (slice_set handles n place) ≡ tables_with rows (slice_set (tables_of rows handles).handles n (option_map (handle_of rows) place))
   place_seen place = ap (λ (hs : List (Option Handle)). tables_with rows hs) (map-set (option_map (handle_of rows)) handles n place)
 
-  with_place : (place : Option HandleView) → ForSome place (Leads rows) → IsSound rows (slice_set handles n place) buffers
-  with_place place leads = record { all_rows = sound.all_rows; named = sound.named; leads = AtEachPlace-set (Leads rows) handles n place sound.leads leads; lent = sound.lent }
+  with_place : (place : Option HandleView) → ForSome place (Leads rows) → IsSound rows (slice_set handles n place)
+  with_place place leads = record { all_rows = sound.all_rows; named = sound.named; leads = AtEachPlace-set (Leads rows) handles n place sound.leads leads; few = sound.few }
 
-  pub given_sound : (app row : ℕ) → IsSome (slice_index_or rows row None) → IsSound rows (slice_set handles n (Some (new_view app row))) buffers
+  pub given_sound : (app row : ℕ) → IsSome (slice_index_or rows row None) → IsSound rows (slice_set handles n (Some (new_view app row)))
   given_sound app row there = with_place (Some (new_view app row)) (λ h is. subst (Leads rows) (same_Some (new_view app row) h is) record {
     table = λ k of. subst (λ (at : ℕ). IsSome (slice_index_or rows at None)) (same_Some row k of) there;
     pins = λ pinned. absurd (cc pinned);
@@ -82,7 +80,7 @@ module _ (rows : List (Option Table)) (handles : List (Option HandleView)) (buff
   pub given_seen : (app row : ℕ) → tables_of rows (slice_set handles n (Some (new_view app row))) ≡ with_handle n (new_handle app row) (tables_of rows handles)
   given_seen app row = place_seen (Some (new_view app row))
 
-  pub freed_sound : IsSound rows (slice_set handles n None) buffers
+  pub freed_sound : IsSound rows (slice_set handles n None)
   freed_sound = with_place None (λ h is. absurd (cc is))
 
   handle_seen : (h : HandleView) → at_place handles n ≡ Some h → handle_at (tables_of rows handles) n ≡ Some (handle_of rows h)
@@ -100,33 +98,27 @@ module _ (rows : List (Option Table)) (handles : List (Option HandleView)) (buff
   alone_seen h place none = place_seen None ∙ sym (ap (λ (at : Option Handle). give_back_by n (tables_of rows handles) (option_and_then (λ (g : Handle). g.row) at)) (handle_seen h place) ∙ rw none refl)
 
   pub taken_back_seen : (h : HandleView) (row : ℕ) (t : Table) → at_place handles n ≡ Some h → h.row ≡ Some row → slice_index_or rows row None ≡ Some t
-      → tables_of (slice_set rows row (Some (drop_before_unless (is_some (position (has (pins_old row)) (slice_set handles n None))) t))) (slice_set handles n None) ≡ give_back n (tables_of rows handles)
+      → tables_of (slice_set rows row (Some (drop_before_unless (is_kept row (slice_set handles n None)) t))) (slice_set handles n None) ≡ give_back n (tables_of rows handles)
   taken_back_seen h row t place of there =
       drop_before_seen record { there = there; sound = freed_sound }
       ∙ ap (λ (freed : Tables). with_table row (drop_before freed.handles row t) freed) (place_seen None)
       ∙ sym (ap (λ (at : Option Handle). give_back_by n (tables_of rows handles) (option_and_then (λ (g : Handle). g.row) at)) (handle_seen h place) ∙ rw (of, there) refl)
 
--- a handle, its row and its table, as the registry keeps them
-pub record Leading (rows : List (Option Table)) (handles : List (Option HandleView)) (n : ℕ) (h : HandleView) (row : ℕ) (t : Table) : Type 0 where
-  pub place : at_place handles n ≡ Some h
-  pub row_is : h.row ≡ Some row
-  pub table : slice_index_or rows row None ≡ Some t
-
-module _ (rows : List (Option Table)) (handles : List (Option HandleView)) (buffers : List (Option LentBuffer)) (n : ℕ) (h : HandleView) (row : ℕ) (t : Table) (l : Leading rows handles n h row t) (sound : IsSound rows handles buffers) where
+module _ (rows : List (Option Table)) (handles : List (Option HandleView)) (n : ℕ) (h : HandleView) (row : ℕ) (t : Table) (l : Leading rows handles n h row t) (sound : IsSound rows handles) where
   pub access_is : access_of (tables_of rows handles) n ≡ Some (record { handle = handle_of rows h; row = row; table = t })
   access_is = rw (get_or-map (option_map (handle_of rows)) handles n None, l.place, l.row_is, l.table) refl
 
   -- ---- the handle changes
 
   step_seen : (f : HandleView → HandleView) → tables_of rows (changed_at f handles n) ≡ with_handle n (handle_of rows (f h)) (tables_of rows handles)
-  step_seen f = rw l.place (place_seen rows handles buffers sound n (Some (f h)))
+  step_seen f = rw l.place (place_seen rows handles sound n (Some (f h)))
 
-  step_sound : (f : HandleView → HandleView) → Leads rows (f h) → IsSound rows (changed_at f handles n) buffers
-  step_sound f leads = rw l.place (with_place rows handles buffers sound n (Some (f h)) (λ g is. subst (Leads rows) (same_Some (f h) g is) leads))
+  step_sound : (f : HandleView → HandleView) → Leads rows (f h) → IsSound rows (changed_at f handles n)
+  step_sound f leads = rw l.place (with_place rows handles sound n (Some (f h)) (λ g is. subst (Leads rows) (same_Some (f h) g is) leads))
 
   -- ---- it pins the last image
 
-  pub pinned_sound : (count : ℕ) → count ≡ t.count → (count ≡ 0 → ⊥) → IsSound rows (changed_at (with_last count) handles n) buffers
+  pub pinned_sound : (count : ℕ) → count ≡ t.count → (count ≡ 0 → ⊥) → IsSound rows (changed_at (with_last count) handles n)
   pinned_sound count all loaded = step_sound (with_last count) record {
     table = (sound.leads n h l.place).table;
     pins = λ _ k of u there.
@@ -149,13 +141,13 @@ module _ (rows : List (Option Table)) (handles : List (Option HandleView)) (buff
   abbrev free : List (Option HandleView)
   free = changed_at with_no_pin handles n
 
-  free_sound : IsSound rows free buffers
+  free_sound : IsSound rows free
   free_sound = step_sound with_no_pin record { table = (sound.leads n h l.place).table; pins = λ pinned. absurd (cc pinned) }
 
-  pub released_sound : IsSound (slice_set rows row (Some (drop_before_unless (is_some (position (has (pins_old row)) free)) t))) free buffers
+  pub released_sound : IsSound (slice_set rows row (Some (drop_before_unless (is_kept row free) t))) free
   released_sound = drop_before_sound record { there = l.table; sound = free_sound }
 
-  pub released_seen : h.pinned ≡ true → tables_of (slice_set rows row (Some (drop_before_unless (is_some (position (has (pins_old row)) free)) t))) free ≡ (release n (tables_of rows handles)).tables
+  pub released_seen : h.pinned ≡ true → tables_of (slice_set rows row (Some (drop_before_unless (is_kept row free) t))) free ≡ (release n (tables_of rows handles)).tables
   released_seen pinned =
       let after : Tables → Tables = λ ts. with_table row (drop_before ts.handles row t) ts in
       drop_before_seen record { there = l.table; sound = free_sound } ∙ ap after (step_seen with_no_pin) ∙ rw (access_is, pinned) refl
@@ -166,11 +158,11 @@ module _ (rows : List (Option Table)) (handles : List (Option HandleView)) (buff
   here_pins pinned = (sound.leads n h l.place).pins pinned row l.row_is t l.table
 
   -- which is there
-  pub image_there : h.pinned ≡ true → (0 < t.count → IsSome t.last) → cond h.old t.before t.last ≡ None → ⊥
-  image_there pinned loaded = by h.old (here_pins pinned) where
+  pub image_there : h.pinned ≡ true → IsTable t → cond h.old t.before t.last ≡ None → ⊥
+  image_there pinned table = by h.old (here_pins pinned) where
     by : (old : Bool) → Pins t old → cond old t.before t.last ≡ None → ⊥
     by true p none = let some = p.kept refl in cc (rw none at some)
-    by false p none = let some = loaded p.loaded in cc (rw none at some)
+    by false p none = let some : (t.count == 0) ≡ false = (let more = p.loaded in grind (arith, nat_tests)) in cc (rw (none, some) at table.loaded)
 
   pub read_lends : (offset len : ℕ) (image : List ℕ) → h.pinned ≡ true → cond h.old t.before t.last ≡ Some image → length image ≡ t.size → offset + len ≤ length image
       → read n offset len (tables_of rows handles) ≡ Ok (take (offset + len - offset) (drop offset image))
@@ -191,7 +183,10 @@ module _ (rows : List (Option Table)) (handles : List (Option HandleView)) (buff
       let it : take (offset + len - offset) (drop offset image) ≡ image = rw (begins, e) (take-length image) in
       rw it at (read_lends offset len image pinned is size (omega (arith, begins, all)))
 
-  -- it lends that image
+  -- it pins one, and lends that image
+  pub pins_one : h.pinned ≡ true → pins_image n (tables_of rows handles) ≡ true
+  pins_one pinned = rw (access_is, pinned) refl
+
   pub lends : (place : ℕ) (image : List ℕ) → h.pinned ≡ true → cond h.old t.before t.last ≡ Some image → lent_at n place (tables_of rows handles) ≡ Some (record { bytes = image; handle = n; place = place; name = t.name })
   lends place image pinned is =
       let the_image : cond (cond h.old (t.count - 1) t.count == t.count) t.last t.before ≡ Some image = by h.old (here_pins pinned) is in

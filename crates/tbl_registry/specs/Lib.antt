@@ -1,11 +1,12 @@
 pub mod Rows
 pub mod Pins
-pub mod Lent
+pub mod Counts
 pub mod Seen
 pub mod Sound
 pub mod Views
+pub mod Shown
+pub mod Asked
 pub mod Adding
 pub mod Lending
 pub mod Images
-pub mod InUse
 pub mod Records

@@ -1,7 +1,8 @@
 -- What handles and their pins hold to.
-use Rattle.std.specs.Prelude.{◌≡◌, ℕ, ◌<◌, List, Bool, true, slice_index_or, Option, None, IsSome}
+use Rattle.std.specs.Prelude.{◌≡◌, ℕ, ◌<◌, List, Bool, true, slice_index_or, Option, None, Some, IsSome}
 use Rattle.std.specs.Option.{ForSome}
 use Rattle.tbl_model.specs.State.{Load, Table}
+use Rattle.access_desc.specs.Steps.{at_place}
 use Rattle.access_desc.specs.declared.handle_view.HandleView.{HandleView}
 
 -- P of what is at each place
@@ -23,3 +24,9 @@ Pins t old = IsPinned t.count t.before t.load old
 pub record Leads (rows : List (Option Table)) (h : HandleView) : Type 0 where
   pub table : ForSome h.row (λ row. IsSome (slice_index_or rows row None))
   pub pins : h.pinned ≡ true → ForSome h.row (λ row. ForSome (slice_index_or rows row None) (λ t. Pins t h.old))
+
+-- a handle, its row and its table
+pub record Leading (rows : List (Option Table)) (handles : List (Option HandleView)) (n : ℕ) (h : HandleView) (row : ℕ) (t : Table) : Type 0 where
+  pub place : at_place handles n ≡ Some h
+  pub row_is : h.row ≡ Some row
+  pub table : slice_index_or rows row None ≡ Some t

@@ -1,9 +1,9 @@
 -- How what the registry keeps is seen.
-use Rattle.std.specs.Prelude.{ℕ, ◌+◌, ◌-◌, List, ◌++◌, length, replicate, map, Bool, if◌then◌else◌, slice_index_or, Option, Some, None}
+use Rattle.std.specs.Prelude.{ℕ, ◌+◌, ◌-◌, List, ◌++◌, length, replicate, map, position, Bool, if◌then◌else◌, slice_index_or, Option, Some, None, is_some}
 use Rattle.std.specs.Option.{option_map, option_map_or}
 use Rattle.tbl_model.specs.State.{Table, Handle, Tables}
 use Rattle.tbl_model.specs.Tables.{is_double}
-use Rattle.access_desc.specs.Steps.{with_pin, with_told}
+use Rattle.access_desc.specs.Steps.{has, pins_old, with_pin, with_told}
 use Rattle.access_desc.specs.declared.handle_view.HandleView.{HandleView}
 
 -- how many images the table of a row has had
@@ -24,6 +24,10 @@ tables_of rows handles = record { rows = rows; handles = map (option_map (handle
 -- it pins the last of so many images, and knows of all
 abbrev pub with_last : ℕ → HandleView → HandleView
 with_last count h = with_told count (with_pin h)
+
+-- a handle pins the image before the last
+abbrev pub is_kept : ℕ → List (Option HandleView) → Bool
+is_kept row handles = is_some (position (has (pins_old row)) handles)
 
 -- the image before the last stays only while it is pinned
 abbrev pub drop_before_unless : Bool → Table → Table

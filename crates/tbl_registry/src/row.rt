@@ -1,9 +1,7 @@
-ghost use Rattle.std.specs.Prelude.{◌≡◌, ◌&&◌, ◌<◌, ◌≤◌, [], ℕ, false, Some, IfSome, length, bit_and};
+ghost use Rattle.std.specs.Prelude.{◌≡◌, [], ℕ, Some, bit_and};
 ghost use Rattle.std.specs.Str.{bytes_eq};
-ghost use Rattle.tbl_kinds.specs.Limits.{table_limit};
-ghost use Rattle.tbl_model.specs.Tables.{has_option, option_bits, is_double, is_dump_only, is_critical, uses_buffer};
+ghost use Rattle.tbl_model.specs.Tables.{is_double, is_dump_only, is_critical, uses_buffer};
 ghost use Rattle.tbl_model.specs.Management.{pending_status};
-ghost use Rattle.tbl_model.specs.TableSteps.{new_table, with_first};
 
 use bitflags::Flags;
 use buffer_pairs::{Buffers, Image};
@@ -128,15 +126,13 @@ impl Model for Row {
 impl Row {
     ghost use Rattle.tbl_registry.specs.Views.{row_view};
     ghost use Rattle.tbl_registry.specs.Rows.{IsTable};
+    ghost use Rattle.tbl_registry.specs.Adding.{IsPlan, planned};
 
     /// A table as its registration makes it.
     #[tactic(auto, using(crate::proofs::Add::one_buffer))]
     pub(crate) fn make(app: u8, handle: u16, plan: NewTable) -> Row
-        requires some_bytes { 0 < plan.size }
-        requires within { plan.size ≤ table_limit }
-        requires options { (has_option 0x0002 (option_bits plan.flags) && has_option 0x0001 (option_bits plan.flags)) ≡ false }
-        requires first { IfSome plan.first (λ image. length image ≡ plan.size) }
-        ensures { result ≡ with_first plan.first (new_table plan.name app plan.size (option_bits plan.flags) plan.validator handle) }
+        requires { IsPlan plan }
+        ensures { result ≡ planned plan app handle }
     {
         Row {
             name: plan.name,

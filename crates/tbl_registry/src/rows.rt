@@ -1,11 +1,12 @@
 //! The 128 rows, each with a table or none.
 
-ghost use Rattle.std.specs.Prelude.{◌≡◌, ◌<◌, ◌≤◌, ◌↔◌, ◌+◌, None, Some, IsSome, IsNone, IfOk, IfSome, if◌then◌else◌, length, position, replicate, count_by, is_some, is_none, slice_index_or, max, fold};
+ghost use Rattle.std.specs.Prelude.{◌≡◌, ◌<◌, ◌≤◌, ◌↔◌, ◌+◌, ◌∷◌, None, Some, IsSome, IsNone, IfOk, IfSome, if◌then◌else◌, length, position, replicate, take, count_by, is_some, is_none, slice_index_or, max, fold};
 ghost use Rattle.std.specs.Option.{option_copied};
 ghost use Rattle.tbl_kinds.specs.Free.{least_free};
-ghost use Rattle.tbl_model.specs.Tables.{is_critical_in};
+ghost use Rattle.tbl_model.specs.Tables.{is_critical_in, uses_buffer, rows_from};
 ghost use Rattle.tbl_model.specs.TableSteps.{has_name};
 ghost use Rattle.tbl_registry.specs.Images.{images_in};
+ghost use Rattle.tbl_registry.specs.Seen.{padded};
 
 use crate::row::Row;
 use std::alloc::{AllocError, Global};
@@ -144,4 +145,39 @@ pub(crate) fn critical_in(rows: &[Option<Row>]) -> u16
         count = counted(count, has_critical(row));
     }
     count
+}
+
+/// Whether the row has a table that uses a shared working buffer.
+fn uses_buffer(row: &Option<Row>) -> bool
+    ensures { result ≡ uses_buffer row.now }
+{
+    match row {
+        Some(table) => table.uses_buffer(),
+        None => false,
+    }
+}
+
+/// Puts the row in front of those that were found, if it uses a buffer.
+fn put_front(found: &mut [Option<u8>; 4], row: u8, uses: bool)
+    ensures { found.new ≡ (if uses then Some row ∷ take 3 found.old else found.old) }
+{
+    if uses {
+        *found = [Some(row), found[0], found[1], found[2]];
+    }
+}
+
+/// The rows that use the shared working buffers, ascending, and then None.
+pub(crate) fn rows_with_buffer(rows: &[Option<Row>]) -> [Option<u8>; 4]
+    requires rows { length rows.now ≤ 256 }
+    requires few { count_by uses_buffer rows.now ≤ 4 }
+    ensures { result ≡ padded (rows_from 0 rows.now) }
+{
+    let mut found = [None; 4];
+    // From the last row down: each is put in front, so they end up ascending.
+    let mut row = rows.len();
+    while row > 0 {
+        row -= 1;
+        put_front(&mut found, row as u8, uses_buffer(&rows[row]));
+    }
+    found
 }

@@ -1,23 +1,22 @@
-ghost use Rattle.std.specs.Prelude.{◌≡◌, ◌&&◌, false, ◌≢◌, ◌<◌, ◌≤◌, ◌↔◌, None, Some, Err, IsSome, IfOk, OnOk, OnErr, IfSome, length};
-ghost use Rattle.std.specs.Option.{ForSome};
+ghost use Rattle.std.specs.Prelude.{◌≡◌, ◌<◌, ◌≤◌, None, IfOk, IfSome, length};
 ghost use Rattle.tbl_kinds.specs.Free.{least_free};
-ghost use Rattle.tbl_kinds.specs.Limits.{table_limit};
 ghost use Rattle.tbl_model.specs.State.{no_tables};
-ghost use Rattle.tbl_model.specs.Tables.{table_count, handle_count, load_count, critical_count, has_option, option_bits, table_at};
-ghost use Rattle.tbl_model.specs.TableSteps.{find, added};
-ghost use Rattle.tbl_registry.specs.Adding.{planned};
+ghost use Rattle.tbl_model.specs.Tables.{table_count, load_count, critical_count};
+ghost use Rattle.tbl_model.specs.TableSteps.{find};
+ghost use Rattle.tbl_registry.specs.Asked.{HasTable};
+ghost use Rattle.tbl_registry.specs.Adding.{IsPlan, Adds};
 ghost use Rattle.tbl_registry.specs.Images.{most_images};
 
+use self::counts::Counts;
 use crate::row::{NewTable, Row};
 use crate::rows::{critical_in, free_row, free_rows, is_named, most_images_in, row_of_name};
 use access_desc::Handles;
 use std::alloc::Global;
 use std::marker::Model;
 use tbl_kinds::Memory;
-use working_buffers::Working;
 
-mod buffers;
 mod copying;
+mod counts;
 mod dumps;
 mod ends;
 mod handles;
@@ -41,31 +40,11 @@ pub enum AddFault {
     Memory,
 }
 
-/// How many tables are registered, and how many of them have an open load.
-#[derive(Clone, Copy)]
-struct Counts {
-    tables: u16,
-    loads: u16,
-}
-
-impl Counts {
-    /// There is no table.
-    fn none() -> Counts
-        ensures { result ≡ record { tables = 0; loads = 0 } }
-    {
-        Counts {
-            tables: 0,
-            loads: 0,
-        }
-    }
-}
-
-/// The registered tables, the handles on them, and who has the shared working buffers.
+/// The registered tables and the handles on them.
 #[derive(Drop)]
 pub struct Tables {
     rows: Vec<Option<Row>>,
     handles: Handles,
-    working: Working,
     counts: Counts,
     /// For each number that `hint_of` gives, the row where the latest table with such a name was registered.
     hints: [u8; HINTS],
@@ -97,7 +76,7 @@ impl Model for Tables {
 
     ghost view = { λ t. tables_of t.rows.items t.handles };
 
-    ghost invariant = { λ t. IsKept t.rows.items t.handles t.working t.counts };
+    ghost invariant = { λ t. IsKept t.rows.items t.handles t.counts };
 }
 
 impl Tables {
@@ -109,7 +88,6 @@ impl Tables {
         Ok(Tables {
             rows: free_rows(alloc)?,
             handles: Handles::make(alloc)?,
-            working: Working::make(alloc)?,
             counts: Counts::none(),
             hints: [0; HINTS],
         })
@@ -118,7 +96,7 @@ impl Tables {
     /// The row of the table of this full name.
     pub fn find(&self, name: &[u8]) -> Option<u8>
         ensures row { result ≡ find name.now self.now }
-        ensures table { IfSome result (λ row. IsSome (table_at self.now row)) }
+        ensures table { IfSome result (λ row. HasTable row self.now) }
         ensures within { IfSome result (λ row. row < 128) }
     {
         let hint = self.hints[hint_of(name)];
@@ -186,21 +164,9 @@ impl Tables {
 
     /// Registers a table in the least free row, and gives its owner the least free handle on it. A dump-only table has one buffer.
     pub fn add(&mut self, app: u8, plan: NewTable) -> Result<u16, AddFault>
+        requires plan { IsPlan plan }
         requires new { find plan.name self.old ≡ None }
-        requires some_bytes { 0 < plan.size }
-        requires within { plan.size ≤ table_limit }
-        requires options { (has_option 0x0002 (option_bits plan.flags) && has_option 0x0001 (option_bits plan.flags)) ≡ false }
-        requires first { IfSome plan.first (λ image. length image ≡ plan.size) }
-        ensures row_free { OnOk result (IsSome (least_free self.old.rows)) }
-        ensures handle_free { IfOk result (λ handle. least_free self.old.handles ≡ Some handle) }
-        ensures added { IfOk result (λ handle. ForSome (least_free self.old.rows) (λ row. self.new ≡ added row (planned plan app handle) self.old)) }
-        ensures registry_full { (result ≡ Err AddFault.RegistryFull) ↔ (table_count self.old ≡ 128) }
-        ensures handles_full { result ≡ Err AddFault.HandlesFull → handle_count self.old ≡ 256 }
-        ensures no_row { result ≡ Err AddFault.RegistryFull → least_free self.old.rows ≡ None }
-        ensures row_first { result ≡ Err AddFault.HandlesFull → IsSome (least_free self.old.rows) }
-        ensures no_handle { result ≡ Err AddFault.HandlesFull → least_free self.old.handles ≡ None }
-        ensures memory { result ≢ Err AddFault.Memory }
-        ensures err { OnErr result (self.new ≡ self.old) }
+        ensures { Adds app plan self.old self.new result }
     {
         // The row is looked for first: a handle that was given before it would have to be taken back.
         let Some(row) = free_row(&self.rows) else {
@@ -210,8 +176,9 @@ impl Tables {
             return Err(AddFault::HandlesFull);
         };
         self.hints[hint_of(plan.name.bytes())] = row;
-        self.rows[row as usize] = Some(Row::make(app, handle, plan));
-        self.counts.tables += 1;
+        let table = Row::make(app, handle, plan);
+        self.counts.enter(&table);
+        self.rows[row as usize] = Some(table);
         Ok(handle)
     }
 }

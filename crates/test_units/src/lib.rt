@@ -5,8 +5,6 @@
 #[cfg(test)]
 mod adapters;
 #[cfg(test)]
-mod buffers;
-#[cfg(test)]
 mod check_words;
 #[cfg(test)]
 mod images;

@@ -5,7 +5,7 @@ PARTS = {
     "step": ("tbl_core::playing", "tbl_core::service", "tbl_core::log", "tbl_top"),
     "dispatch": ("tbl_core", "request_effects"),
     "request": ("desk", "load_requests", "update_requests", "dump_requests", "address_requests", "store_requests", "tbl_registry", "sharing",
-                "access_desc", "buffer_pairs", "working_buffers", "validation", "file_drawer"),
+                "access_desc", "buffer_pairs", "validation", "file_drawer"),
     "store": ("cds_store", "cds_layout", "cds_pool", "check_word", "tbl_adapters", "pread", "pread64", "pwrite", "pwrite64"),
     "packets": ("reply_packets", "tlm_packets", "cfe_headers"),
     "writing": ("tbl_top::writing", "transcript", "write"),

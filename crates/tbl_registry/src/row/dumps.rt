@@ -1,13 +1,12 @@
 //! The dump of a registered table.
 
-ghost use Rattle.std.specs.Prelude.{◌≡◌, ◌≤◌, List, ℕ, [], true, IfSome, length, unwrap_or};
-ghost use Rattle.std.specs.Option.{option_map, option_copied};
-ghost use Rattle.std.specs.Borrow.{Bor};
-ghost use Rattle.tbl_kinds.specs.Limits.{table_limit};
+ghost use Rattle.std.specs.Prelude.{◌≡◌, Some, [], true, unwrap_or};
+ghost use Rattle.std.specs.Option.{option_copied};
 ghost use Rattle.tbl_model.specs.State.{quiet, requested};
 ghost use Rattle.tbl_model.specs.Tables.{is_quiet};
 ghost use Rattle.tbl_model.specs.TableSteps.{filled_with, last_image};
-ghost use Rattle.tbl_registry.specs.Views.{dump_view, dump_name, filled_image};
+ghost use Rattle.tbl_registry.specs.Shown.{ShowsFilled};
+ghost use Rattle.tbl_registry.specs.Views.{dump_view, dump_name};
 
 use super::{Dump, DumpFile, Row};
 use buffer_pairs::Buffers;
@@ -48,9 +47,7 @@ impl Row {
 
     /// The image of its filled dump.
     pub(crate) fn filled(&self) -> Option<&[u8]>
-        ensures image { option_map (λ (image : Bor (List ℕ)). image.now) result ≡ filled_image self.now.dump }
-        ensures within { IfSome result (λ image. length image.now ≤ self.now.size) }
-        ensures limit { IfSome result (λ image. length image.now ≤ table_limit) }
+        ensures { ShowsFilled result (Some self.now) }
     {
         match self.dump {
             DumpFile::Filled(_) => Some(kept_bytes(&self.buffers)),

@@ -1,31 +1,15 @@
 //! The images of a registered table.
 
-ghost use Rattle.std.specs.Prelude.{◌≡◌, ◌<◌, ◌+◌, ◌-◌, ◌≤◌, ◌^◌, ◌==◌, List, ℕ, not, None, Some, IsSome, IfSome, IfOk, is_some, length, if◌then◌else◌};
-ghost use Rattle.std.specs.Option.{option_map, option_copied};
-ghost use Rattle.std.specs.Borrow.{Bor};
-ghost use Rattle.tbl_kinds.specs.Check.{check16};
-ghost use Rattle.tbl_kinds.specs.Limits.{table_limit};
+ghost use Rattle.std.specs.Prelude.{◌≡◌, ◌<◌, ◌+◌, ◌-◌, ◌^◌, None, Some, IfSome, is_some, length, if◌then◌else◌};
+ghost use Rattle.std.specs.Option.{option_copied};
 ghost use Rattle.tbl_model.specs.Tables.{is_double};
-ghost use Rattle.tbl_model.specs.Validations.{judged_image};
 ghost use Rattle.tbl_registry.specs.Rows.{IsTable};
-ghost use Rattle.tbl_registry.specs.Views.{has_image};
+ghost use Rattle.tbl_registry.specs.Shown.{KeepsWord};
 
 use super::Row;
 use buffer_pairs::Image;
-use tbl_kinds::Memory;
 
 impl Row {
-    /// The bytes of its last image, or of the one before it.
-    pub(crate) fn image(&self, before: bool) -> Option<&[u8]>
-        ensures image { option_map (λ (image : Bor (List ℕ)). image.now) result ≡ (if before then self.now.before else self.now.last) }
-        ensures size { IfSome result (λ image. length image.now ≡ self.now.size) }
-        ensures within { self.now.size ≤ table_limit }
-        ensures loaded { 0 < self.now.count → IsSome self.now.last }
-        ensures counted { is_some self.now.last ≡ not (self.now.count == 0) }
-    {
-        Some(self.whole(before)?.bytes())
-    }
-
     /// Its last image, or the one before it, with all that own it.
     pub(crate) fn whole(&self, before: bool) -> Option<&Image>
         ensures image { option_copied result ≡ (if before then self.now.before else self.now.last) }
@@ -39,23 +23,9 @@ impl Row {
         }
     }
 
-    /// A further owner of its last image, or of the one before it. None if there is none; an Err means that the image has as many owners as
-    /// can be counted.
-    pub(crate) fn share(&self, before: bool) -> Result<Option<Image>, Memory>
-        ensures image { IfOk result (λ image. image ≡ (if before then self.now.before else self.now.last)) }
-        ensures loaded { 0 < self.now.count → IsSome self.now.last }
-    {
-        match self.whole(before) {
-            Some(image) => Ok(Some(image.share()?)),
-            None => Ok(None),
-        }
-    }
-
     /// The check word of its last image, or else of that of its open load. It is kept with the image.
     pub(crate) fn keep_check_word(&mut self, active: bool) -> Option<u16>
-        ensures word { IfSome result (λ word. word ≡ check16 (judged_image self.old active)) }
-        ensures there { is_some result ≡ has_image self.old active }
-        ensures same { self.new ≡ self.old }
+        ensures { KeepsWord result active (Some self.old) self.old self.new }
     {
         if active {
             return self.buffers.keep_check_word();

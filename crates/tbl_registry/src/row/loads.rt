@@ -1,14 +1,13 @@
 //! The open load of a registered table.
 
-ghost use Rattle.std.specs.Prelude.{◌≡◌, ◌+◌, ◌≤◌, List, ℕ, true, false, None, IsSome, IfSome, is_some, length, if◌then◌else◌};
+ghost use Rattle.std.specs.Prelude.{◌≡◌, ◌+◌, ◌≤◌, true, false, None, Some, IsSome, IfSome, is_some, length, if◌then◌else◌};
 ghost use Rattle.std.specs.Option.{option_map};
-ghost use Rattle.std.specs.Borrow.{Bor};
-ghost use Rattle.tbl_kinds.specs.Limits.{table_limit};
 ghost use Rattle.tbl_kinds.specs.Numbers.{patched};
 ghost use Rattle.tbl_model.specs.State.{Load};
 ghost use Rattle.tbl_model.specs.Tables.{is_dump_only};
 ghost use Rattle.tbl_model.specs.TableSteps.{unchecked, base};
 ghost use Rattle.tbl_registry.specs.Rows.{IsTable};
+ghost use Rattle.tbl_registry.specs.Shown.{ShowsPart, loaded_of};
 ghost use Rattle.tbl_registry.specs.Views.{row_view};
 
 use super::{OpenLoad, Row};
@@ -24,9 +23,7 @@ impl Row {
 
     /// The image of its open load.
     pub(crate) fn load(&self) -> Option<&[u8]>
-        ensures image { option_map (λ (image : Bor (List ℕ)). image.now) result ≡ option_map (λ (load : Load). load.image) self.now.load }
-        ensures size { IfSome result (λ image. length image.now ≡ self.now.size) }
-        ensures within { self.now.size ≤ table_limit }
+        ensures { ShowsPart result loaded_of (Some self.now) }
     {
         match &self.load {
             Some(load) => Some(load.image.bytes()),
@@ -66,7 +63,11 @@ impl Row {
         let Some(load) = &mut self.load else {
             unreachable!();
         };
-        write_load(load, offset, bytes)
+        let written = load.image.write(offset, bytes);
+        if written {
+            load.checked = false;
+        }
+        written
     }
 
     /// Marks its open load as validated since its last change, or takes the mark away.
@@ -100,16 +101,4 @@ impl Row {
             None => None,
         }
     }
-}
-
-/// Writes bytes into the load in place, if nobody else has its image. Whether it did.
-fn write_load(load: &mut OpenLoad, offset: u32, bytes: &[u8]) -> bool
-    requires { offset + length bytes.now ≤ length load.old.image }
-    ensures { load.new ≡ (if result then record { image = patched load.old.image offset bytes.now; checked = false } else load.old) }
-{
-    let written = load.image.write(offset, bytes);
-    if written {
-        load.checked = false;
-    }
-    written
 }

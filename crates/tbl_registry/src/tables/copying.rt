@@ -29,7 +29,7 @@ fn copy_rows(alloc: Global, rows: &[Option<Row>]) -> Result<Vec<Option<Row>>, Me
 }
 
 impl Tables {
-    /// The same tables, handles and shared buffers in memory of their own. The bytes of images are in the same memory: an image has a
+    /// The same tables and handles in memory of their own. The bytes of images are in the same memory: an image has a
     /// further owner, and nobody changes it in place as long as both have it. An Err means out of memory, or that an image has as many
     /// owners as can be counted.
     pub fn duplicate(&self, alloc: Global) -> Result<Tables, Memory>
@@ -38,7 +38,6 @@ impl Tables {
         Ok(Tables {
             rows: copy_rows(alloc, &self.rows)?,
             handles: self.handles.duplicate(alloc)?,
-            working: self.working.duplicate(alloc)?,
             counts: self.counts,
             hints: self.hints,
         })

@@ -1,27 +1,24 @@
 //! How tables go.
 
-ghost use Rattle.std.specs.Prelude.{◌≡◌, None, Some, IsSome};
+ghost use Rattle.std.specs.Prelude.{◌≡◌};
 ghost use Rattle.tbl_model.specs.State.{no_tables};
-ghost use Rattle.tbl_model.specs.Tables.{table_at};
 ghost use Rattle.tbl_model.specs.TableSteps.{remove};
+ghost use Rattle.tbl_registry.specs.Asked.{HasTable};
 
-use super::buffers::settle;
-use super::{Counts, Tables};
+use super::Tables;
+use super::counts::Counts;
 use crate::rows::{free_all, table_in};
 
 impl Tables {
     /// The table of a row is gone, and its handles lead to none. The buffer that it used is free again.
     pub fn remove(&mut self, row: u8)
-        requires { IsSome (table_at self.old row) }
+        requires { HasTable row self.old }
         ensures { self.new ≡ remove row self.old }
     {
         let Some(table) = table_in(&self.rows, row) else {
             unreachable!();
         };
-        // While the table is there it can say whether it uses a buffer.
-        settle(&mut self.working, row, table.uses_buffer(), false);
-        self.counts.loads -= table.has_load() as u16;
-        self.counts.tables -= 1;
+        self.counts.leave(table);
         self.handles.orphan(row);
         self.rows[row as usize] = None;
     }
@@ -32,7 +29,6 @@ impl Tables {
     {
         free_all(&mut self.rows);
         self.handles.clear();
-        self.working.clear();
         self.counts = Counts::none();
     }
 }

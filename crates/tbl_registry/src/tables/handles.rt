@@ -1,6 +1,6 @@
 //! What applications do with handles on tables.
 
-ghost use Rattle.std.specs.Prelude.{◌≡◌, ◌<◌, [], None, Some, Ok, Err, IsSome, IfOk, OnOk, IfSome, OnSome, IfNone, is_some, if◌then◌else◌, nat_lt, length, position, slice_index_or, option_and_then};
+ghost use Rattle.std.specs.Prelude.{◌≡◌, ◌<◌, [], None, IsSome, IfOk, OnOk, IfSome, OnSome, IfNone, if◌then◌else◌, nat_lt, length, position, option_and_then};
 ghost use Rattle.std.specs.Option.{option_map, ForSome};
 ghost use Rattle.tbl_model.specs.State.{Table, Handle};
 ghost use Rattle.tbl_model.specs.Management.{pending_status};
@@ -8,8 +8,11 @@ ghost use Rattle.tbl_kinds.specs.Free.{least_free};
 ghost use Rattle.tbl_model.specs.Tables.{table_at};
 ghost use Rattle.tbl_model.specs.TableSteps.{check, handle_at, access_of, locker, new_handle, with_handle, give_back, registered_by};
 ghost use Rattle.tbl_model.specs.AddressSteps.{get_address, release};
-ghost use Rattle.access_desc.specs.Steps.{at_place, changed_at, has, pins, pins_old, with_no_pin};
-ghost use Rattle.tbl_registry.specs.Seen.{handle_of, tables_of, with_last, drop_before_unless};
+ghost use Rattle.access_desc.specs.Steps.{has, pins, pins_old};
+ghost use Rattle.tbl_registry.specs.Asked.{HasTable};
+ghost use Rattle.tbl_registry.specs.Lending.{IsMade};
+ghost use Rattle.tbl_registry.specs.Pins.{Leading};
+ghost use Rattle.tbl_registry.specs.Seen.{handle_of, tables_of, is_kept, drop_before_unless};
 
 use super::Tables;
 use crate::row::Row;
@@ -23,9 +26,7 @@ pub(super) fn access<'a>(
     handles: &Handles,
     handle: u16,
 ) -> Option<(HandleView, u8, &'a Row)>
-    ensures handle { IfSome result (λ found. at_place handles.now handle ≡ Some found.0) }
-    ensures row { IfSome result (λ found. found.0.row ≡ Some found.1) }
-    ensures table { IfSome result (λ found. slice_index_or rows.now found.1 None ≡ Some found.2.now) }
+    ensures leads { IfSome result (λ found. Leading rows.now handles.now handle found.0 found.1 found.2.now) }
     ensures none { IfNone result (access_of (tables_of rows.now handles.now) handle ≡ None) }
     ensures within { OnSome result (handle < 256) }
 {
@@ -35,33 +36,13 @@ pub(super) fn access<'a>(
     Some((view, row, table))
 }
 
-/// The handle pins the last image of its table, which has had so many, and knows of it.
-fn pin_last(handles: &mut Handles, handle: u16, count: u32)
-    requires { IsSome (at_place handles.old handle) }
-    ensures { handles.new ≡ changed_at (with_last count) handles.old handle }
-{
-    handles.pin(handle);
-    handles.tell(handle, count);
-}
-
 /// Drops the image before the last of this row's table, unless a handle pins it.
 pub(super) fn drop_before(table: &mut Row, handles: &Handles, row: u8)
-    ensures { table.new ≡ drop_before_unless (is_some (position (has (pins_old row)) handles.now)) table.old }
+    ensures { table.new ≡ drop_before_unless (is_kept row handles.now) table.old }
 {
     if table.has_before() && handles.pinned_old(row).is_none() {
         table.drop_before();
     }
-}
-
-/// The handle of this row's table pins nothing any more. The image before the last goes with the last pin of it.
-fn unpin(table: &mut Row, handles: &mut Handles, handle: u16, row: u8)
-    requires { IsSome (at_place handles.old handle) }
-    ensures handles { handles.new ≡ changed_at with_no_pin handles.old handle }
-    ensures table { table.new ≡ drop_before_unless (is_some (position (has (pins_old row)) handles.new)) table.old }
-{
-    // The pin ends first: the image before goes only if no other handle pins it.
-    handles.unpin(handle);
-    drop_before(table, handles, row);
 }
 
 /// The least handle that pins an image of this row's table, or one that isn't the last.
@@ -90,7 +71,7 @@ impl Tables {
     /// Whether the application may use the handle, and the row of its table.
     pub fn check(&self, app: u8, handle: u16, owner: bool) -> Result<u8, Status>
         ensures answer { result ≡ check self.now app handle owner }
-        ensures table { IfOk result (λ row. IsSome (table_at self.now row)) }
+        ensures table { IfOk result (λ row. HasTable row self.now) }
         ensures access { OnOk result (IsSome (access_of self.now handle)) }
     {
         let view = self.handles.view(handle).ok_or(Status::ERR_INVALID_HANDLE)?;
@@ -114,7 +95,7 @@ impl Tables {
     /// Gives an application a further handle on the table of a row: the least free one, None if 256 are given. It knows of no image, and
     /// pins none.
     pub fn new_handle(&mut self, app: u8, row: u8) -> Option<u16>
-        requires { IsSome (table_at self.old row) }
+        requires { HasTable row self.old }
         ensures least_free { result ≡ least_free self.old.handles }
         ensures given { IfSome result (λ handle. self.new ≡ with_handle handle (new_handle app row) self.old) }
         ensures full { IfNone result (self.new ≡ self.old) }
@@ -144,7 +125,7 @@ impl Tables {
     /// The row of the table that this handle registered, None for a further handle, or if the handle leads to no table.
     pub fn registered_by(&self, handle: u16) -> Option<u8>
         ensures row { result ≡ registered_by self.now handle }
-        ensures table { IfSome result (λ row. IsSome (table_at self.now row)) }
+        ensures table { IfSome result (λ row. HasTable row self.now) }
     {
         let (_, row, table) = access(&self.rows, &self.handles, handle)?;
         if table.view().handle == handle {
@@ -190,9 +171,7 @@ impl Tables {
     /// The handle pins the last image of its table and knows of it.
     pub fn get_address(&mut self, handle: u16) -> Answer
         requires { IsSome (access_of self.old handle) }
-        ensures status { result.status ≡ (get_address handle self.old).status }
-        ensures detail { result.detail ≡ 0 }
-        ensures tables { self.new ≡ (get_address handle self.old).tables }
+        ensures { IsMade (get_address handle self.old) result self.new }
     {
         let Some((view, _, table)) = access(&self.rows, &self.handles, handle) else {
             unreachable!();
@@ -204,16 +183,15 @@ impl Tables {
         if count == 0 {
             return Answer::plain(Status::ERR_NEVER_LOADED);
         }
-        pin_last(&mut self.handles, handle, count);
+        self.handles.pin(handle);
+        self.handles.tell(handle, count);
         Answer::plain(update_status(view.told, count))
     }
 
     /// The pin of the handle ends.
     pub fn release(&mut self, handle: u16) -> Answer
         requires { IsSome (access_of self.old handle) }
-        ensures status { result.status ≡ (release handle self.old).status }
-        ensures detail { result.detail ≡ 0 }
-        ensures tables { self.new ≡ (release handle self.old).tables }
+        ensures { IsMade (release handle self.old) result self.new }
     {
         let Some((view, row, table)) = access(&self.rows, &self.handles, handle) else {
             unreachable!();
@@ -225,7 +203,9 @@ impl Tables {
         let Some(table) = &mut self.rows[row as usize] else {
             unreachable!();
         };
-        unpin(table, &mut self.handles, handle, row);
+        // The pin ends first: the image before the last goes with the last pin of it.
+        self.handles.unpin(handle);
+        drop_before(table, &self.handles, row);
         Answer::plain(update_status(view.told, count))
     }
 

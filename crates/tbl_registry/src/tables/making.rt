@@ -1,16 +1,16 @@
 //! The images that loads and edits make of those of a table.
 
-ghost use Rattle.std.specs.Prelude.{◌≡◌, ◌+◌, ◌<◌, ◌≤◌, length, replicate, Some, None, IsSome, IfSome, IfNone, IfOk, is_some};
+ghost use Rattle.std.specs.Prelude.{◌≡◌, ◌+◌, ◌<◌, ◌≤◌, length, replicate, IfOk};
 ghost use Rattle.std.specs.Option.{ForSome};
-ghost use Rattle.tbl_kinds.specs.Limits.{table_limit};
 ghost use Rattle.tbl_kinds.specs.Numbers.{patched};
 ghost use Rattle.tbl_model.specs.Tables.{table_at};
 ghost use Rattle.tbl_model.specs.TableSteps.{base};
-ghost use Rattle.tbl_model.specs.Validations.{judged_image};
-ghost use Rattle.tbl_registry.specs.Views.{has_image};
+ghost use Rattle.tbl_registry.specs.Asked.{HasTable, IsInside};
+ghost use Rattle.tbl_registry.specs.Shown.{ShowsImage, ShowsBase};
 
 use super::Tables;
 use crate::row::Row;
+use crate::rows::table_in;
 use buffer_pairs::Image;
 use std::alloc::{AllocError, Global};
 use tbl_kinds::Memory;
@@ -54,23 +54,18 @@ fn take_spare(rows: &mut [Option<Row>], row: usize) -> Option<Image>
 impl Tables {
     /// The last image of the table of a row (`active`), or that of its open load. None if there is none.
     pub fn image(&self, row: u8, active: bool) -> Option<&[u8]>
-        ensures image { IfSome result (λ image. ForSome (table_at self.now row) (λ t. image.now ≡ judged_image t active)) }
-        ensures there { ForSome (table_at self.now row) (λ t. is_some result ≡ has_image t active) }
-        ensures size { IfSome result (λ image. ForSome (table_at self.now row) (λ t. length image.now ≡ t.size)) }
-        ensures within { IfSome result (λ image. length image.now ≤ table_limit) }
+        ensures { ShowsImage result active (table_at self.now row) }
     {
+        let table = table_in(&self.rows, row)?;
         if active {
-            return self.last(row);
+            return Some(table.whole(false)?.bytes());
         }
-        self.load(row)
+        table.load()
     }
 
     /// What a load of the table of a row begins with: the image of its open load, or its last one. None stands for zeros.
     fn base(&self, row: u8) -> Option<&[u8]>
-        requires { IsSome (table_at self.now row) }
-        ensures image { IfSome result (λ image. ForSome (table_at self.now row) (λ t. image.now ≡ base t)) }
-        ensures size { IfSome result (λ image. ForSome (table_at self.now row) (λ t. length image.now ≡ t.size)) }
-        ensures zeros { IfNone result (ForSome (table_at self.now row) (λ t. base t ≡ replicate t.size 0)) }
+        ensures { ShowsBase result (table_at self.now row) }
     {
         match self.load(row) {
             Some(image) => Some(image),
@@ -81,7 +76,7 @@ impl Tables {
     /// A new image of these bytes for the table of a row. It takes the memory of one that the table had before, if nobody has that any more
     /// and it isn't long.
     pub fn whole_image(&mut self, alloc: Global, row: u8, bytes: &[u8]) -> Result<Image, Memory>
-        requires { IsSome (table_at self.old row) }
+        requires { HasTable row self.old }
         ensures image { IfOk result (λ image. image ≡ bytes.now) }
         ensures same { self.new ≡ self.old }
     {
@@ -99,8 +94,8 @@ impl Tables {
         offset: u32,
         bytes: &[u8],
     ) -> Result<Image, Memory>
-        requires table { IsSome (table_at self.old row) }
-        requires within { ForSome (table_at self.old row) (λ t. offset + length bytes.now ≤ t.size) }
+        requires table { HasTable row self.old }
+        requires within { IsInside row offset bytes.now self.old }
         ensures image { IfOk result (λ image. ForSome (table_at self.old row) (λ t. image ≡ patched (base t) offset bytes.now)) }
         ensures size { IfOk result (λ image. ForSome (table_at self.old row) (λ t. length image ≡ t.size)) }
         ensures same { self.new ≡ self.old }

@@ -1,10 +1,9 @@
 //! The images that handles pin: their bytes, and the images themselves.
 
-ghost use Rattle.std.specs.Prelude.{◌≡◌, ◌<◌, ◌≤◌, Ok, Err, IsSome, IfOk, OnOk, IfErr, IfSome, OnSome, is_some, length};
-ghost use Rattle.tbl_kinds.specs.Limits.{table_limit};
+ghost use Rattle.std.specs.Prelude.{◌≡◌, Ok, IsSome, IfSome};
 ghost use Rattle.tbl_model.specs.AddressSteps.{read};
 ghost use Rattle.tbl_model.specs.TableSteps.{access_of};
-ghost use Rattle.tbl_registry.specs.Lending.{pins_image, lent_at};
+ghost use Rattle.tbl_registry.specs.Lending.{Reads, LendsImage};
 
 use super::Tables;
 use super::handles::access;
@@ -16,10 +15,7 @@ impl Tables {
     /// The stated bytes of the image that the handle pins.
     pub fn read(&self, handle: u16, offset: u32, len: u32) -> Result<&[u8], Status>
         requires { IsSome (access_of self.now handle) }
-        ensures ok { IfOk result (λ bytes. read handle offset len self.now ≡ Ok bytes.now) }
-        ensures err { IfErr result (λ status. read handle offset len self.now ≡ Err status) }
-        ensures length { IfOk result (λ bytes. length bytes.now ≡ len) }
-        ensures within { OnOk result (len ≤ table_limit) }
+        ensures { Reads handle offset len self.now result }
     {
         let Some((view, _, table)) = access(&self.rows, &self.handles, handle) else {
             unreachable!();
@@ -27,9 +23,10 @@ impl Tables {
         if !view.pinned {
             return Err(Status::ERR_NOT_PINNED);
         }
-        let Some(image) = table.image(view.old) else {
+        let Some(image) = table.whole(view.old) else {
             unreachable!();
         };
+        let image = image.bytes();
         let from = offset as usize;
         let to = from + len as usize;
         if to > image.len() {
@@ -62,9 +59,7 @@ impl Tables {
     /// Lends the image that a handle pins, with the place of the call that got its address. None if the handle leads to no table, or pins
     /// no image. An Err means that the image has as many owners as can be counted.
     pub fn lend(&self, handle: u16, place: u64) -> Result<Option<Pin>, Memory>
-        ensures lent { IfOk result (λ lent. lent ≡ lent_at handle place self.now) }
-        ensures none { IfOk result (λ lent. is_some lent ≡ pins_image handle self.now) }
-        ensures within { IfOk result (λ lent. OnSome lent (handle < 256)) }
+        ensures { LendsImage handle place self.now result }
     {
         let Some((view, _, table)) = access(&self.rows, &self.handles, handle) else {
             return Ok(None);
@@ -72,9 +67,9 @@ impl Tables {
         if !view.pinned {
             return Ok(None);
         }
-        let Some(image) = table.share(view.old)? else {
+        let Some(pinned) = table.whole(view.old) else {
             unreachable!();
         };
-        Ok(Some(Pin::of(image, handle, place, table.name().copy())))
+        Ok(Some(Pin::of(pinned.share()?, handle, place, table.name().copy())))
     }
 }

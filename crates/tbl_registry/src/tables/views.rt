@@ -1,31 +1,26 @@
 //! What can be seen of the table of a row, and who has the shared buffers.
 
-ghost use Rattle.std.specs.Prelude.{◌≡◌, ◌==◌, ◌++◌, ◌≤◌, ◌+◌, ℕ, List, Some, IsSome, IfSome, IfNone, length, option_and_then, is_some, not};
+ghost use Rattle.std.specs.Prelude.{◌≡◌, ◌==◌, ◌++◌, ◌≤◌, ◌+◌, length, option_and_then};
 ghost use Rattle.std.specs.Option.{option_copied, option_map, ForSome};
-ghost use Rattle.std.specs.Borrow.{Bor};
-ghost use Rattle.tbl_kinds.specs.Limits.{table_limit};
 ghost use Rattle.tbl_kinds.specs.Telemetry.{registry_record};
-ghost use Rattle.tbl_model.specs.State.{Load, Table};
+ghost use Rattle.tbl_model.specs.State.{Table};
 ghost use Rattle.tbl_model.specs.Tables.{in_use, table_at};
-ghost use Rattle.tbl_model.specs.TableSteps.{find};
 ghost use Rattle.tbl_model.specs.Registry.{registry_row};
 ghost use Rattle.tbl_model.specs.Validations.{selected};
-ghost use Rattle.tbl_registry.specs.Rows.{IsTable};
+ghost use Rattle.tbl_registry.specs.Asked.{HasTable};
 ghost use Rattle.tbl_registry.specs.Seen.{padded};
-ghost use Rattle.tbl_registry.specs.Views.{row_view, dump_name, filled_image};
+ghost use Rattle.tbl_registry.specs.Shown.{ShowsRow, ShowsPart, ShowsFilled, last_of, loaded_of};
+ghost use Rattle.tbl_registry.specs.Views.{dump_name};
 
 use super::Tables;
-use super::buffers::rows_with_buffer;
 use crate::row::{RECORD_LENGTH, RowView};
-use crate::rows::table_in;
+use crate::rows::{rows_with_buffer, table_in};
 use tbl_kinds::{Bytes, Name40, Name64};
 
 impl Tables {
     /// What can be seen of the table of a row.
     pub fn row(&self, row: u8) -> Option<RowView>
-        ensures view { result ≡ option_map row_view (table_at self.now row) }
-        ensures table { ForSome (table_at self.now row) IsTable }
-        ensures named { ForSome (table_at self.now row) (λ t. find t.name self.now ≡ Some row) }
+        ensures { ShowsRow result row self.now }
     {
         Some(table_in(&self.rows, row)?.view())
     }
@@ -33,7 +28,7 @@ impl Tables {
     /// Which image of the table of a row the ground means by a selector: the last one by 1, that of the open load by 0. A dump-only table
     /// has only one image. None for any other selector.
     pub fn selected(&self, row: u8, select: u16) -> Option<bool>
-        requires { IsSome (table_at self.now row) }
+        requires { HasTable row self.now }
         ensures { ForSome (table_at self.now row) (λ t. result ≡ selected t select) }
     {
         let Some(table) = table_in(&self.rows, row) else {
@@ -49,7 +44,7 @@ impl Tables {
     /// The record of the table of a row, as the registry gives it (`CFE_TBL_GetInfo`).
     #[inline]
     pub fn record(&self, row: u8) -> [u8; RECORD_LENGTH]
-        requires { IsSome (table_at self.now row) }
+        requires { HasTable row self.now }
         ensures record { ForSome (table_at self.now row) (λ t. result ≡ registry_record (registry_row t)) }
         ensures len { ForSome (table_at self.now row) (λ t. length (registry_record (registry_row t)) ≡ 144) }
     {
@@ -61,7 +56,7 @@ impl Tables {
 
     /// Appends the record of the table of a row, 144 bytes.
     pub fn write_info(&self, row: u8, out: &mut Bytes)
-        requires table { IsSome (table_at self.now row) }
+        requires table { HasTable row self.now }
         requires room { 144 ≤ out.old.spare }
         ensures bytes { ForSome (table_at self.now row) (λ t. out.new.list ≡ out.old.list ++ registry_record (registry_row t)) }
         ensures room { out.old.spare ≤ out.new.spare + 144 }
@@ -78,21 +73,15 @@ impl Tables {
     }
 
     /// The last image of the table of a row, None if there is none.
-    pub fn last(&self, row: u8) -> Option<&[u8]>
-        ensures image { option_map (λ (image : Bor (List ℕ)). image.now) result ≡ option_and_then (λ (t : Table). t.last) (table_at self.now row) }
-        ensures size { IfSome result (λ image. ForSome (table_at self.now row) (λ t. length image.now ≡ t.size)) }
-        ensures within { IfSome result (λ image. length image.now ≤ table_limit) }
-        ensures none { IfNone result (ForSome (table_at self.now row) (λ t. t.count ≡ 0)) }
-        ensures there { ForSome (table_at self.now row) (λ t. is_some result ≡ not (t.count == 0)) }
+    pub(super) fn last(&self, row: u8) -> Option<&[u8]>
+        ensures { ShowsPart result last_of (table_at self.now row) }
     {
-        table_in(&self.rows, row)?.image(false)
+        Some(table_in(&self.rows, row)?.whole(false)?.bytes())
     }
 
     /// The image of the open load of the table of a row, None if there is none.
     pub fn load(&self, row: u8) -> Option<&[u8]>
-        ensures image { option_map (λ (image : Bor (List ℕ)). image.now) result ≡ option_map (λ (load : Load). load.image) (option_and_then (λ (t : Table). t.load) (table_at self.now row)) }
-        ensures size { IfSome result (λ image. ForSome (table_at self.now row) (λ t. length image.now ≡ t.size)) }
-        ensures within { IfSome result (λ image. length image.now ≤ table_limit) }
+        ensures { ShowsPart result loaded_of (table_at self.now row) }
     {
         table_in(&self.rows, row)?.load()
     }
@@ -106,9 +95,7 @@ impl Tables {
 
     /// The image of the filled dump of the table of a row, None if no dump is filled.
     pub fn filled(&self, row: u8) -> Option<&[u8]>
-        ensures image { option_map (λ (image : Bor (List ℕ)). image.now) result ≡ option_and_then (λ (t : Table). filled_image t.dump) (table_at self.now row) }
-        ensures size { IfSome result (λ image. ForSome (table_at self.now row) (λ t. length image.now ≤ t.size)) }
-        ensures within { IfSome result (λ image. length image.now ≤ table_limit) }
+        ensures { ShowsFilled result (table_at self.now row) }
     {
         table_in(&self.rows, row)?.filled()
     }
@@ -118,7 +105,10 @@ impl Tables {
         ensures rows { result ≡ padded (in_use self.now) }
         ensures within { length (in_use self.now) ≤ 4 }
     {
-        rows_with_buffer(&self.rows, &self.working)
+        if self.counts.users == 0 {
+            return [None; 4];
+        }
+        rows_with_buffer(&self.rows)
     }
 
     /// Whether all four shared working buffers are used.
@@ -126,6 +116,6 @@ impl Tables {
         ensures all { result ≡ (length (in_use self.now) == 4) }
         ensures few { length (in_use self.now) ≤ 4 }
     {
-        self.working.is_full()
+        self.counts.users == 4
     }
 }

@@ -1,12 +1,10 @@
 //! The check words of images, which are kept with them.
 
-ghost use Rattle.std.specs.Prelude.{◌≡◌, length, IfSome, is_some, slice_index_or, option_and_then, None};
+ghost use Rattle.std.specs.Prelude.{◌≡◌, length, IfSome, slice_index_or, option_and_then, None};
 ghost use Rattle.std.specs.Option.{ForSome};
-ghost use Rattle.tbl_kinds.specs.Check.{check16};
 ghost use Rattle.tbl_model.specs.State.{Table};
 ghost use Rattle.tbl_model.specs.Tables.{table_at};
-ghost use Rattle.tbl_model.specs.Validations.{judged_image};
-ghost use Rattle.tbl_registry.specs.Views.{has_image};
+ghost use Rattle.tbl_registry.specs.Shown.{KeepsWord};
 
 use super::Tables;
 use crate::row::Row;
@@ -15,9 +13,7 @@ use check_word::Checked;
 
 /// The check word of an image of the table of the row.
 fn word_of(row: &mut Option<Row>, active: bool) -> Option<u16>
-    ensures word { IfSome result (λ word. ForSome row.old (λ t. word ≡ check16 (judged_image t active))) }
-    ensures there { ForSome row.old (λ t. is_some result ≡ has_image t active) }
-    ensures same { row.new ≡ row.old }
+    ensures { KeepsWord result active row.old row.old row.new }
 {
     match row {
         Some(table) => table.keep_check_word(active),
@@ -28,9 +24,7 @@ fn word_of(row: &mut Option<Row>, active: bool) -> Option<u16>
 /// The same of the row of this number.
 #[tactic(auto, using(crate::proofs::Spares::read_back))]
 fn word_in(rows: &mut [Option<Row>], row: usize, active: bool) -> Option<u16>
-    ensures word { IfSome result (λ word. ForSome (slice_index_or rows.old row None) (λ t. word ≡ check16 (judged_image t active))) }
-    ensures there { ForSome (slice_index_or rows.old row None) (λ t. is_some result ≡ has_image t active) }
-    ensures same { rows.new ≡ rows.old }
+    ensures { KeepsWord result active (slice_index_or rows.old row None) rows.old rows.new }
 {
     if rows.len() <= row {
         return None;
@@ -51,9 +45,7 @@ impl Tables {
     /// The check word of the last image of the table of a row (`active`), or of that of its open load. None if there is no such image. It
     /// is kept with the image, so that it is worked out once as long as nobody changes the image.
     pub fn keep_check_word(&mut self, row: u8, active: bool) -> Option<u16>
-        ensures word { IfSome result (λ word. ForSome (table_at self.old row) (λ t. word ≡ check16 (judged_image t active))) }
-        ensures there { ForSome (table_at self.old row) (λ t. is_some result ≡ has_image t active) }
-        ensures same { self.new ≡ self.old }
+        ensures { KeepsWord result active (table_at self.old row) self.old self.new }
     {
         word_in(&mut self.rows, row as usize, active)
     }

@@ -3,4 +3,4 @@ use Rattle.tbl_registry.proofs.Start.{kept_start}
 use Rattle.tbl_registry.proofs.tables.Tables.clear.Goals as goal
 
 pub invariant_of-self : goal.invariant_of-self
-invariant_of-self c = kept_start _ c.clear.new.self c.clear-2.new.self _ (search rules) c.clear.ensures c.clear-2.ensures c.none-self-inside.ensures
+invariant_of-self c = kept_start _ c.clear.new.self _ (search rules) c.clear.ensures c.none-self-inside.ensures

@@ -1,15 +1,18 @@
 use Rattle.std.proofs.Common.{refl}
-use Rattle.tbl_registry.proofs.Changes.{stands, has_its_buffer, row_sound, row_seen}
-use Rattle.tbl_registry.proofs.Counted.{kept}
+use Rattle.tbl_registry.proofs.Changes.{stands, row_seen, ended_sound}
+use Rattle.tbl_registry.proofs.Counted.{is_counted, room_again, recounted}
 use Rattle.tbl_registry.proofs.tables.Tables.end_dump.Goals as goal
 
-pub give_dump-requires : goal.give_dump-requires
-give_dump-requires c = has_its_buffer (stands c.args.row c.self.invariant.sound c.index_mut.ensures.value c.in-Some.is (rw (← c.self.view_is) at c.requires))
+pub leave-requires : goal.leave-requires
+leave-requires c = is_counted (stands c.args.row c.self.invariant.sound c.index_mut.ensures.value c.in-Some.is (rw (← c.self.view_is) at c.requires)) c.self.invariant.counted
+
+pub enter-requires : goal.enter-requires
+enter-requires c = rw c.leave.ensures (room_again (stands c.args.row c.self.invariant.sound c.index_mut.ensures.value c.in-Some.is (rw (← c.self.view_is) at c.requires)) c.self.invariant.counted)
 
 pub invariant_of-self : goal.invariant_of-self
 invariant_of-self c =
     let row = stands c.args.row c.self.invariant.sound c.index_mut.ensures.value c.in-Some.is (rw (← c.self.view_is) at c.requires) in
-    rw c.give_dump.ensures.table (kept row c.self.invariant.counted _ (row_sound row _ c.give_dump.new.working refl refl refl (λ none. none) (rw c.give_dump.ensures.table at c.give_dump.ensures.buffers)) refl)
+    rw (c.enter.ensures, c.leave.ensures, c.end_dump.ensures) (recounted row c.self.invariant.counted _ (ended_sound row))
 
 pub returns : goal.returns
-returns c = let row = stands c.args.row c.self.invariant.sound c.index_mut.ensures.value c.in-Some.is (rw (← c.self.view_is) at c.requires) in rw (← c.self.view_is, c.give_dump.ensures.table, row.there) (row_seen row _ refl)
+returns c = let row = stands c.args.row c.self.invariant.sound c.index_mut.ensures.value c.in-Some.is (rw (← c.self.view_is) at c.requires) in rw (← c.self.view_is, c.end_dump.ensures, row.there) (row_seen row _ refl)

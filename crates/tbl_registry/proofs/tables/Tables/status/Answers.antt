@@ -5,6 +5,6 @@ use Rattle.tbl_registry.proofs.tables.Tables.status.Goals as goal
 
 pub returns-clause-status : goal.returns-clause-status
 returns-clause-status c = λ a found.
-    let is = access_is c.self.inside.rows.items c.self.inside.handles c.self.inside.working c.args.handle c.in-Some.field-0-0 c.in-Some.field-0-1 c.in-Some.table.now record { place = c.in-Some.ensures.handle; row_is = c.in-Some.ensures.row; table = rw (← c.deref.ensures.value) c.in-Some.ensures.table } c.self.invariant.sound in
+    let is = access_is c.self.inside.rows.items c.self.inside.handles c.args.handle c.in-Some.field-0-0 c.in-Some.field-0-1 c.in-Some.table.now (rw (← c.deref.ensures.value) c.in-Some.ensures.leads) c.self.invariant.sound in
     let same = same_Some _ a (sym is ∙ rw (← c.self.view_is) at found) in
     rw (c.plain.ensures.status, ← same) (c.pending.ensures c.in-Some.field-0-1)
