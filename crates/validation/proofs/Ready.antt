@@ -92,26 +92,6 @@ pub mark_has_functions : {C : Type 0} (tables : Tables) (row : ℕ) (active : Bo
 mark_has_functions tables row true verdict kit all = all
 mark_has_functions tables row false verdict kit all = all_keep tables row _ (λ t. ForSome t.validator (λ number. IsSome (entry_at kit number))) (λ t there has. has) all
 
--- ---- other changes
-
--- a change of a table that has no pending validation of its load, and that goes on to have its images and its function
-pub change_keeps : (tables : Tables) (row : ℕ) (change : Table → Table) (pending : List (ℕ × Bool)) → ((t : Table) → IsSome t.validator → IsSome (change t).validator) → ((t : Table) → 0 < t.count → 0 < (change t).count)
-    → is_pending row false pending ≡ false → ArePending tables pending → ArePending (changed row change tables) pending
-change_keeps tables row change pending validator count gone all r true is =
-    stays_there tables row change (λ t. CanValidate t true) (λ t there can. (validator t can.0, count t can.1)) r (all r true is)
-change_keeps tables row change pending validator count gone all r false is = elim (cases_eq r row) [
-  | inl here ↦ absurd (cc (rw (here, gone) at is))
-  | inr other ↦ rw (changed_there tables row change r other) (all r false is)
-]
-
--- if the activation of a load is requested, no validation of it is pending
-pub none_pending : (tables : Tables) (row : ℕ) (t : Table) (pending : List (ℕ × Bool)) → table_at tables row ≡ Some t → t.activation ≡ true → ArePending tables pending → is_pending row false pending ≡ false
-none_pending tables row t pending there requested all = by (is_pending row false pending) refl
-  where
-    by : (b : Bool) → is_pending row false pending ≡ b → b ≡ false
-    by false is = refl
-    by true is = let no_activation = ((all row false is).1 t there).1.1 in absurd (cc (rw requested at no_activation))
-
 -- ---- loads whose activation is requested
 
 pub loads_keep : (tables : Tables) (row : ℕ) (change : Table → Table) → ((t : Table) → table_at tables row ≡ Some t → HasItsLoad t → HasItsLoad (change t)) → HaveLoads tables → HaveLoads (changed row change tables)
@@ -140,10 +120,6 @@ some_is (Some x) there = (x, refl)
 -- the kit has the functions still, which were asked
 pub asked_has_functions : {C : Type 0} (tables : Tables) (old new : List (Option (KitEntry C))) → ((number : ℕ) → IsSome (entry_at old number) → IsSome (entry_at new number)) → HaveFunctions tables old → HaveFunctions tables new
 asked_has_functions tables old new still all = λ row t there number is. still number (all row t there number is)
-
-pub is_there : {X : Type 0} (o : Option X) → is_some o ≡ true → IsSome o
-is_there None is = absurd (cc is)
-is_there (Some x) is = cc
 
 pub not_none : {X : Type 0} (o : Option X) → IsSome o → false ≡ is_some o → ⊥
 not_none None is same = absurd (cc is)

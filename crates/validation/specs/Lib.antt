@@ -1,3 +1,4 @@
 pub mod Kits
 pub mod Asked
 pub mod Ready
+pub mod Pends

@@ -1,6 +1,6 @@
-ghost use Rattle.std.specs.Prelude.{◌≡◌, ◌≢◌, ◌<◌, ◌^◌, ℕ, List, [], ◌∷◌, Option, Some, None, is_some, map, length, IsSome, IfOk};
+ghost use Rattle.std.specs.Prelude.{◌≡◌, ◌<◌, ◌^◌, [], ◌∷◌, Some, None, is_some, map, IfOk};
 ghost use Rattle.std.specs.Option.{ForSome, option_map};
-ghost use Rattle.validation.specs.Kits.{entry_at, is_of, dropped, Hands, with_check, AskedMore, MayAsk};
+ghost use Rattle.validation.specs.Kits.{entry_at, is_of, unless_of, dropped, Hands, with_check, AskedMore, MayAsk};
 ghost use Rattle.validation.specs.Asked.{WasAsked, asks};
 ghost use Rattle.tbl_outside.specs.declared.validator.KitEntry.{KitEntry as Entry};
 
@@ -48,7 +48,7 @@ fn ask<C: Validator>(entry: &mut KitEntry<C>, image: &[u8]) -> i32
 
 /// Drops the function of an application.
 fn drop_of<C: Validator>(entry: &mut Option<KitEntry<C>>, app: u8)
-    ensures { entry.new ≡ Rattle.validation.specs.Kits.unless_of app entry.old }
+    ensures { entry.new ≡ unless_of app entry.old }
 {
     if is_of(entry, app) {
         *entry = None;
@@ -97,15 +97,9 @@ impl<C: Validator> Kit<C> {
     }
 
     /// The verdict of the function of this number on an image.
-    pub fn perform(&mut self, number: u8, image: &[u8]) -> i32
-        requires there { IsSome (entry_at self.old number) }
-        requires few { ForSome (entry_at self.old number) (λ entry. C.asked entry.check < 2 ^ 63) }
-        ensures verdict { ForSome (entry_at self.old number) (λ entry. result ≡ C.verdict entry.check image.now) }
-        ensures there { IsSome (entry_at self.new number) }
-        ensures asked { ForSome (entry_at self.old number) (λ old. ForSome (entry_at self.new number) (AskedMore C.verdict C.asked 1 old)) }
-        ensures others { (n : ℕ) → n ≢ number → entry_at self.new n ≡ entry_at self.old n }
-        ensures numbers { length self.new ≡ length self.old }
-        ensures answers { WasAsked C.verdict C.asked self.old self.new (record { number = number; image = image.now } ∷ []) (Some result ∷ None ∷ []) }
+    fn perform(&mut self, number: u8, image: &[u8]) -> i32
+        requires { MayAsk C.asked 1 self.old number }
+        ensures { WasAsked C.verdict C.asked self.old self.new (asks (Some number) image.now) (Some result ∷ None ∷ []) }
     {
         let Some(entry) = &mut self.entries[number as usize] else {
             unreachable!();

@@ -1,5 +1,6 @@
-ghost use Rattle.std.specs.Prelude.{◌≡◌, ◌↔◌, ◌≤◌, ℕ, List, [], ◌∷◌, ◌++◌, length, false, true, Err, OnOk, OnErr};
-ghost use Rattle.tbl_model.specs.Pending.{is_pair, is_pending, without_pair, of_other_rows};
+ghost use Rattle.std.specs.Prelude.{◌≡◌, []};
+ghost use Rattle.tbl_model.specs.Pending.{is_pending, without_pair, of_other_rows};
+ghost use Rattle.validation.specs.Pends.{Pends};
 
 use arrayvec::ArrayVec;
 use std::marker::Model;
@@ -63,10 +64,7 @@ impl Pending {
 
     /// Asks a validation: it comes after those that are pending.
     pub fn request(&mut self, row: u8, active: bool) -> Result<(), PendFault>
-        ensures ok { OnOk result (self.new ≡ self.old ++ (row, active) ∷ []) }
-        ensures twice { (result ≡ Err PendFault.Twice) ↔ (is_pending row active self.old ≡ true) }
-        ensures full { (result ≡ Err PendFault.Full) ↔ ((is_pending row active self.old ≡ false) × (length self.old ≡ 10)) }
-        ensures err { OnErr result (self.new ≡ self.old) }
+        ensures { Pends row active self.old self.new result }
     {
         // That it is pending already is reported even if the list is full.
         if self.has(row, active) {
