@@ -35,6 +35,11 @@ abbrev pub OfEffect : (Effect → Type 0) → Option Effect → Type 0
 OfEffect P None = Unit {0}
 OfEffect P (Some e) = P e
 
+-- and so what follows of it
+pub part : {P Q : Effect → Type 0} → ((e : Effect) → P e → Q e) → (o : Option Effect) → OfEffect P o → OfEffect Q o
+part follows None is = is
+part follows (Some e) is = follows e is
+
 -- a handle of the application, with the table that it leads to
 pub record Leads (tables : Tables) (app m : ℕ) (a : Access) : Type 0 where
   pub place : handle_at tables m ≡ Some a.handle

@@ -43,14 +43,13 @@ use Rattle.tbl_laws.proofs.Ordinary.{free_place}
 use Rattle.tbl_laws.proofs.Pins.{AreLoaded, Keeps, stays_keeps, unpinned_set, release_keeps, add_keeps, put_keeps, unseen_keeps, then_keeps, stays_goes_on}
 use Rattle.tbl_laws.proofs.PinsLoaded.{file_keeps, close_keeps, mark_keeps, patched_sized}
 use Rattle.tbl_laws.proofs.PinsKept.{update_keeps, give_up_keeps, leave_keeps, put_alone_keeps}
-use Rattle.tbl_laws.proofs.Fair.{IsPlain, Fair, fair_keeps, fair_plain, fair_refused, fair_anew, no_stop, pin_fair, back_fair, granted}
+use Rattle.tbl_laws.proofs.Fair.{IsPlain, Fair, fair_keeps, fair_plain, fair_refused, fair_anew, no_stop, pin_fair, back_fair, granted, ends_keep, judged_goes_on, manage_goes_on, manage_keeps, open_checked, status_goes_on}
 use Rattle.tbl_laws.proofs.Cases.{OfEffect, CallsStore, Copies, Begins}
 use Rattle.tbl_laws.proofs.AddressCases.{by_get, by_read, by_release}
 use Rattle.tbl_laws.proofs.ApplicationCases.{by_register, by_start, by_share, by_unregister, by_info, by_notify, by_exit}
 use Rattle.tbl_laws.proofs.LoadCases.{by_load_image, by_load_file, by_app_validate, by_update, by_manage, by_get_status, by_dump_to_buffer, by_edit}
 use Rattle.tbl_laws.proofs.BlockCases.{by_delete, by_cds_register, by_cds_copy, by_cds_restore, by_cds_delete}
 use Rattle.tbl_laws.proofs.CommandCases.{Commands, by_command, by_file}
-use Rattle.tbl_laws.proofs.FairManage.{ends_keep, judged_goes_on, manage_goes_on, manage_keeps, open_checked, status_goes_on}
 
 module _ (s : State) (n : ℕ) (fit : AreFit n s) where
   -- ---- the ground

@@ -15,8 +15,7 @@ use Rattle.tbl_model.specs.declared.telemetry.TelemetryEvent.TheVariants.{Judged
 use Rattle.tbl_model.specs.Fit.{AreFit}
 use Rattle.tbl_laws.proofs.Rows.{changed_row}
 use Rattle.tbl_laws.proofs.Fits.{was}
-use Rattle.tbl_laws.proofs.Honest.{TellsIn, PassesIn, NoneActive, none_active_one, Inherits, inherits_same, IsHonest, honest_plain}
-use Rattle.tbl_laws.proofs.Inheriting.{inherits_updated}
+use Rattle.tbl_laws.proofs.Honest.{TellsIn, PassesIn, NoneActive, none_active_one, Inherits, inherits_same, IsHonest, honest_plain, inherits_updated}
 
 -- ---- events
 

@@ -19,8 +19,7 @@ use Rattle.tbl_kinds.specs.declared.entry.Answer.{Answer}
 use Rattle.tbl_model.specs.Fit.{AreFit}
 use Rattle.tbl_laws.proofs.Fits.{was}
 use Rattle.tbl_laws.proofs.Changes.{with_found, either, validated}
-use Rattle.tbl_laws.proofs.Honest.{TellsIn, PassesIn, NoneActive, none_active_nil, none_active_more, slice_get_more, passes_more, last_tells}
-use Rattle.tbl_laws.proofs.Inheriting.{inherits_unseen, inherits_updated}
+use Rattle.tbl_laws.proofs.Honest.{TellsIn, PassesIn, NoneActive, none_active_nil, none_active_more, slice_get_more, passes_more, last_tells, inherits_unseen, inherits_updated}
 use Rattle.tbl_laws.proofs.HonestImages.{marked_by, same_row}
 
 -- what was done so far reports no image that went active, and each mark has a verdict in it or was there

@@ -31,14 +31,13 @@ use Rattle.tbl_kinds.specs.declared.request.Request.TheVariants as ask
 use Rattle.tbl_model.specs.Fit.{AreFit}
 use Rattle.tbl_laws.proofs.Ordinary.{free_place}
 use Rattle.tbl_laws.proofs.Pins.{nothing_there}
-use Rattle.tbl_laws.proofs.Honest.{NoneActive, none_active_nil, none_active_one, none_active_more, slice_get_more, index_none, passes_more, is_activated, Inherits, inherits_same, then_inherits, inherits_none, IsHonest, honest_plain}
+use Rattle.tbl_laws.proofs.Honest.{NoneActive, none_active_nil, none_active_one, none_active_more, slice_get_more, index_none, passes_more, is_activated, Inherits, inherits_same, then_inherits, inherits_none, IsHonest, honest_plain, inherits_changed, inherits_file, inherits_given_up, inherits_imaged, inherits_put, inherits_released, inherits_unseen, inherits_without}
 use Rattle.tbl_laws.proofs.Cases.{OfEffect, CallsStore, Copies}
 use Rattle.tbl_laws.proofs.AddressCases.{by_get, by_read, by_release}
 use Rattle.tbl_laws.proofs.ApplicationCases.{by_register, by_start, by_share, by_unregister, by_info, by_notify, by_exit}
 use Rattle.tbl_laws.proofs.LoadCases.{by_load_image, by_load_file, by_app_validate, by_update, by_manage, by_get_status, by_dump_to_buffer, by_edit}
 use Rattle.tbl_laws.proofs.BlockCases.{by_delete, by_cds_register, by_cds_copy, by_cds_restore, by_cds_delete}
 use Rattle.tbl_laws.proofs.CommandCases.{Commands, by_command, by_file}
-use Rattle.tbl_laws.proofs.Inheriting.{inherits_changed, inherits_file, inherits_given_up, inherits_imaged, inherits_put, inherits_released, inherits_unseen, inherits_without}
 use Rattle.tbl_laws.proofs.HonestImages.{judged_active, loaded_active, plain_active, validated_mark}
 use Rattle.tbl_laws.proofs.HonestManage.{managed_end}
 

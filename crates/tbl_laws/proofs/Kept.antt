@@ -1,11 +1,12 @@
--- Each verdict that an entry reports of a table with a function is one that the function was asked for, about the very image.
-use Rattle.std.proofs.Common.{◌≡◌, ◌+◌, ℕ, zero, suc, List, [], ◌∷◌, ◌++◌, length, Bool, true, false, not, eqb, Option, Some, None, is_some, ℤ, pos, refl, sym, ap, subst, ◌∙◌, inl, inr, length-append, arith}
+-- Each verdict that an entry reports of a table with a function is one that the function was asked for, about the very image; and an answer
+-- that reports the bank's trouble has its cause in the note.
+use Rattle.std.proofs.Common.{◌≡◌, ◌+◌, ℕ, nat_lt, zero, suc, List, [], ◌∷◌, ◌++◌, length, Bool, true, false, not, eqb, Option, Some, None, is_some, ℤ, pos, refl, sym, ap, subst, ◌∙◌, inl, inr, length-append, arith}
 use Rattle.std.specs.Prelude.{slice_get, slice_index_or}
 use Rattle.std.specs.Option.{option_map, option_map_or}
 use Rattle.std.specs.List.{fold}
 use Rattle.tbl_kinds.specs.Drawer.{is_full_for}
 use Rattle.std.proofs.lemmas.Option.{same_Some}
-use Rattle.std.proofs.lemmas.Bool.{cases_eq, eqb-true, cond_both}
+use Rattle.std.proofs.lemmas.Bool.{cases_eq, eqb-true, cond_both, or_parts, not-true}
 use Rattle.std.proofs.lemmas.List.{append-nil}
 use Rattle.tbl_model.specs.State.{State, Table, Tables, Load, Dump, quiet, requested, filled}
 use Rattle.tbl_model.specs.Tables.{table_at, rows_where}
@@ -21,6 +22,8 @@ use Rattle.tbl_model.specs.AppLoads.{activate_effect, with_verdict, from_file, f
 use Rattle.tbl_model.specs.Management.{Done, nothing_done, is_requested, with_validation, then_validate, with_update, then_update, with_fill, then_fill, all_done}
 use Rattle.tbl_model.specs.Dumps.{Ended, end_by, then_end, is_filled, dumps_ended, housekeeping_effect}
 use Rattle.tbl_model.specs.Vouched.{verdict_for}
+use Rattle.tbl_model.specs.BankCounts.{tells_trouble, HasCause}
+use Rattle.tbl_model.specs.Whole.{is_done}
 use Rattle.tbl_model.specs.declared.telemetry.TelemetryEvent.{TelemetryEvent}
 use Rattle.tbl_model.specs.declared.telemetry.TelemetryEvent.TheVariants.{Judged, CopyFailed, Dumped, NotDumped}
 use Rattle.tbl_kinds.specs.declared.status.TheConstants.Status.{ERR_VALIDATION_FAILED}
@@ -32,13 +35,19 @@ use Rattle.tbl_model.proofs.RefusalAnswers.{is_refusal}
 use Rattle.tbl_laws.proofs.Changes.{with_found, either}
 use Rattle.tbl_laws.proofs.Rows.{OneRow, changed_row}
 use Rattle.tbl_laws.proofs.Honest.{slice_get_more, get_before, index_none, last_tells}
-use Rattle.tbl_laws.proofs.Cases.{OfEffect, CallsStore, Copies}
+use Rattle.tbl_laws.proofs.Cases.{OfEffect, CallsStore, Copies, part}
+use Rattle.tbl_laws.proofs.CauseLemmas.{harmless, reset_caused, updated, judged, managed, pends, stop_caused, fault_caused}
 use Rattle.tbl_laws.proofs.AddressCases.{by_get, by_read, by_release}
 use Rattle.tbl_laws.proofs.ApplicationCases.{by_register, by_start, by_share, by_unregister, by_info, by_notify, by_exit}
 use Rattle.tbl_laws.proofs.LoadCases.{by_load_image, by_load_file, by_app_validate, by_update, by_manage, by_dump_to_buffer, by_edit, by_get_status}
 use Rattle.tbl_laws.proofs.BlockCases.{by_delete, by_cds_register, by_cds_copy, by_cds_restore, by_cds_delete}
 use Rattle.tbl_laws.proofs.CommandCases.{Commands, by_command, by_file}
 use Rattle.tbl_laws.proofs.KeptEvents.{AreAsked, IsKept, IsSilent, WasAsked, active_silent, finished_told, judged_told, none_told, nothing_silent, one_told, told_of}
+
+-- its verdicts were asked for, and if it reports the bank's trouble, that has its cause in the note
+pub record Tells (s : State) (given : Given) (e : Effect) : Type 0 where
+  pub caused : HasCause e.status given.note
+  pub kept : IsKept s given e
 
 -- ---- Manage
 
@@ -135,8 +144,16 @@ module _ (s : State) (given : Given) where
   nothing_told : AreAsked s given [] [] []
   nothing_told = none_told s given [] [] [] refl
 
-  refused : (e : Effect) → e.next ≡ s → e.events ≡ [] → e.calls ≡ [] → is_refusal e.status ≡ true → IsKept s given e
-  refused e same no_events no_calls refuses = none_told s given e.events e.images e.questions no_events
+  -- with no event there is no verdict
+  plain : (e : Effect) → e.events ≡ [] → tells_trouble e.status ≡ false → Tells s given e
+  plain e no_events no_trouble = record { caused = harmless e.status given.note no_trouble; kept = none_told s given e.events e.images e.questions no_events }
+
+  -- with these verdicts, and with no trouble
+  told_so : (e : Effect) → tells_trouble e.status ≡ false → IsKept s given e → Tells s given e
+  told_so e no_trouble kept = record { caused = harmless e.status given.note no_trouble; kept = kept }
+
+  refused : (e : Effect) → e.next ≡ s → e.events ≡ [] → e.calls ≡ [] → is_refusal e.status ≡ true → Tells s given e
+  refused e same no_events no_calls refuses = plain e no_events (or_parts (is_done e.status) (tells_trouble e.status) (not-true _ refuses)).1
 
   no_questions : (t : Table) (image : List ℕ) → is_some t.validator ≡ false → questions t image ≡ []
   no_questions t image none = by t.validator none where
@@ -173,39 +190,42 @@ module _ (s : State) (given : Given) where
       subst (AreAsked s given (finished row active t (judged_image t active) (pos 0) ∷ []) (Some (judged_image t active) ∷ [])) (no_questions t (judged_image t active) none)
       (finished_told s given row t active (judged_image t active) (pos 0) there (λ some. absurd (cc (some, none))))
 
-  calls_store : CallsStore s given.note (IsKept s given)
+  calls_store : CallsStore s given.note (Tells s given)
   calls_store = record {
-    answers = λ store e is no_events no_trouble. none_told s given e.events e.images e.questions no_events;
-    fails = λ store e failed is no_events status. none_told s given e.events e.images e.questions no_events;
-    restarts = λ store e stopped is no_events status. none_told s given e.events e.images e.questions no_events;
+    answers = λ store e is no_events no_trouble. plain e no_events no_trouble;
+    fails = λ store e failed is no_events status. record { caused = rw status (fault_caused given.note failed); kept = none_told s given e.events e.images e.questions no_events };
+    restarts = λ store e stopped is no_events status. record { caused = rw status (stop_caused given.note stopped); kept = none_told s given e.events e.images e.questions no_events };
   }
 
-  -- that a copy failed is no verdict
-  copies : Copies given.note (IsKept s given)
+  -- that a copy failed is no verdict, and leaves the answer
+  copies : Copies given.note (Tells s given)
   copies = record {
-    left = λ slot image e p. p;
-    fails = λ row slot e failed p place k number event image v t tells is there function. elim (slice_get_more e.events (CopyFailed row slot) event place tells.event_is) [
-      | inl old ↦ p place k number event image v t (record { event_is = old; image_is = index_none e.images place image tells.image_is }) is there function
-      | inr end ↦ absurd (cc (ap (verdict_for k) end.1, is))
-    ];
-    stops = λ e stop p. p;
+    left = λ slot image e p. record { caused = p.caused; kept = p.kept };
+    fails = λ row slot e failed p. record {
+      caused = p.caused;
+      kept = λ place k number event image v t tells is there function. elim (slice_get_more e.events (CopyFailed row slot) event place tells.event_is) [
+        | inl old ↦ p.kept place k number event image v t (record { event_is = old; image_is = index_none e.images place image tells.image_is }) is there function
+        | inr end ↦ absurd (cc (ap (verdict_for k) end.1, is))
+      ];
+    };
+    stops = λ e stop p. record { caused = stop_caused given.note stop; kept = p.kept };
   }
 
-  commands : Commands s given.note (IsKept s given)
+  commands : Commands s given.note (Tells s given)
   unfolding housekeeping_effect dumps_ended
   commands = record {
-    about = λ e table p. p;
-    accepted = nothing_told;
-    housekeeping = λ place row number event image v t tells is there function. absurd (cc (ends_silent (rows_where is_filled 0 s.tables.rows) (record { state = s; bytes = []; events = [] }) nothing_silent place event tells.event_is row, is));
-    loaded = λ name file row t there none. nothing_told;
-    pends = λ row t active there none function. nothing_told;
-    at_once = λ row t active there none no_function. at_once row t active there no_function;
-    asks = λ row t there none. nothing_told;
-    aborted = λ row t there open_load. nothing_told;
-    shown = λ row. nothing_told;
-    deletes = λ name slot block none. by_delete s (IsKept s given) refused given.note calls_store slot;
-    written = λ row file bytes free. rw free (one_told s given (Dumped row file (length bytes)) (None ∷ []) [] (λ r. refl));
-    dump_requested = λ file row t there only none. rw none (nothing_told);
+    about = λ e table p. record { caused = p.caused; kept = p.kept };
+    accepted = plain _ refl refl;
+    housekeeping = told_so _ refl (λ place row number event image v t tells is there function. absurd (cc (ends_silent (rows_where is_filled 0 s.tables.rows) (record { state = s; bytes = []; events = [] }) nothing_silent place event tells.event_is row, is)));
+    loaded = λ name file row t there none. plain _ refl refl;
+    pends = λ row t active there none function. plain _ refl refl;
+    at_once = λ row t active there none no_function. told_so _ refl (at_once row t active there no_function);
+    asks = λ row t there none. plain _ refl refl;
+    aborted = λ row t there open_load. plain _ refl refl;
+    shown = λ row. plain _ refl refl;
+    deletes = λ name slot block none. by_delete s (Tells s given) refused given.note calls_store slot;
+    written = λ row file bytes free. rw free (told_so _ refl (one_told s given (Dumped row file (length bytes)) (None ∷ []) [] (λ r. refl)));
+    dump_requested = λ file row t there only none. rw none (plain _ refl refl);
   }
 
   judged_well : (row : ℕ) (t : Table) (image : List ℕ) (number : ℕ) (verdict : ℤ) (e : Effect) → table_at s.tables row ≡ Some t → t.validator ≡ Some number → verdict ≡ verdict_at 0 given → e.events ≡ activated row t ∷ [] → IsKept s given (with_verdict row image number verdict e)
@@ -218,34 +238,37 @@ module _ (s : State) (given : Given) where
       subst (λ (ds : List TelemetryEvent). AreAsked s given (Judged row verdict ∷ ds) (Some image ∷ e.images) (record { number = number; image = image } ∷ [])) (sym events)
       (judged_told s given row t number image verdict [] e.images there is one nothing_silent)
 
+  pub told : (actor : Actor) (request : Request) → OfEffect (Tells s given) (effect_of s actor request given)
+  told Ground (ask.Command bytes) = by_command s given.note (Tells s given) refused commands bytes.list
+  told Ground (ask.File file) = by_file s (Tells s given) refused file.name file.bytes (plain _ refl refl)
+  told Ground (ask.Time seconds sub) = plain _ refl refl
+  told Ground (ask.Reset kind) = record { caused = reset_caused given.note; kept = nothing_told }
+  told Ground _ = tt
+  told (App app) (ask.Start name) = by_start s (Tells s given) refused app name (plain _ refl refl)
+  told (App app) (ask.Register short size flags validator) = by_register s (Tells s given) refused app short size flags validator given.note calls_store (λ name row handle options first status calls store plan free_row free_handle begins quiet. plain _ refl quiet)
+  told (App app) (ask.Share name) = by_share s (Tells s given) refused app name (λ row handle free. plain _ refl refl)
+  told (App app) (ask.Unregister handle) = by_unregister s (Tells s given) refused app handle (λ h place own. plain _ refl refl)
+  told (App app) (ask.LoadImage handle image) = by_load_image s (Tells s given) refused given (λ row t bytes number verdict there is one bad. told_so _ refl (judged_badly row t bytes number verdict (answered s ERR_VALIDATION_FAILED (verdict_bits verdict)) there is one refl)) copies app handle image.list
+      (λ row t there none no_function. told_so _ refl (one_told s given (activated row t) (Some image.list ∷ []) [] (λ r. refl))) (λ row t number verdict there none is one good. told_so _ refl (judged_well row t image.list number verdict (activate_effect s row t image.list) there is one refl))
+  told (App app) (ask.LoadFile handle name) = by_load_file s (Tells s given) refused given (λ row t bytes number verdict there is one bad. told_so _ refl (judged_badly row t bytes number verdict (answered s ERR_VALIDATION_FAILED (verdict_bits verdict)) there is one refl)) copies app handle name
+      (λ row t file there open_to none no_function. told_so _ refl (one_told s given (activated row t) (Some (file_image t file) ∷ []) [] (λ r. refl))) (λ row t file number verdict there open_to none is one good. told_so _ refl (judged_well row t (file_image t file) number verdict (from_file row name (activate_effect s row t (file_image t file))) there is one refl))
+  told (App app) (ask.Update handle) = by_update s (Tells s given) refused app handle given.note copies (λ row t there none. told_so _ refl (one_told s given (activated row t) (Some (load_image t) ∷ []) [] (λ r. refl)))
+  told (App app) (ask.Validate handle) = by_app_validate s (Tells s given) refused app handle given (λ row t active there first. told_so _ (judged (is_good (verdict_at 0 given))) (finished_told s given row t active (judged_image t active) (verdict_at 0 given) there (λ some. refl)))
+  told (App app) (ask.Manage handle) = by_manage s (Tells s given) refused app handle given copies (λ row t there. told_so _ (managed s.tables row t) (manages 0 row))
+  told (App app) (ask.DumpToBuffer handle) = by_dump_to_buffer s (Tells s given) refused app handle (λ row t there is. plain _ refl refl)
+  told (App app) (ask.Edit handle offset bytes) = by_edit s (Tells s given) refused app handle offset bytes.list (λ row t there none. plain _ refl refl)
+  told (App app) (ask.Get handle) = by_get s (Tells s given) refused app handle (λ a leads some. plain _ refl (updated (nat_lt a.handle.told a.table.count)))
+  told (App app) (ask.Read handle offset len) = by_read s (Tells s given) refused app handle offset len (λ a leads pinned inside. plain _ refl refl)
+  told (App app) (ask.Release handle) = by_release s (Tells s given) refused app handle (λ a leads pinned. rw pinned (plain _ refl (updated (nat_lt a.handle.told a.table.count))))
+  told (App app) (ask.GetStatus handle) = by_get_status s (Tells s given) refused app handle (λ row t. plain _ refl (pends s.pending row t))
+  told (App app) (ask.GetInfo name) = by_info s (Tells s given) refused app name (λ t. plain _ refl refl)
+  told (App app) (ask.Notify handle msg code parameter) = by_notify s (Tells s given) refused app handle msg code parameter (λ row t there is. plain _ refl refl)
+  told (App app) ask.Exit = by_exit s (Tells s given) refused app (plain _ refl refl)
+  told (App app) (ask.CdsRegister name size) = by_cds_register s (Tells s given) refused given.note calls_store app name size
+  told (App app) (ask.CdsCopy slot image) = by_cds_copy s (Tells s given) refused given.note calls_store app slot image.list
+  told (App app) (ask.CdsRestore slot) = by_cds_restore s (Tells s given) refused given.note calls_store app slot
+  told (App app) (ask.CdsDelete slot) = by_cds_delete s (Tells s given) refused given.note calls_store app slot
+  told (App app) _ = tt
+
   pub kept : (actor : Actor) (request : Request) → OfEffect (IsKept s given) (effect_of s actor request given)
-  kept Ground (ask.Command bytes) = by_command s given.note (IsKept s given) refused commands bytes.list
-  kept Ground (ask.File file) = by_file s (IsKept s given) refused file.name file.bytes (nothing_told)
-  kept Ground (ask.Time seconds sub) = nothing_told
-  kept Ground (ask.Reset kind) = nothing_told
-  kept Ground _ = tt
-  kept (App app) (ask.Start name) = by_start s (IsKept s given) refused app name (nothing_told)
-  kept (App app) (ask.Register short size flags validator) = by_register s (IsKept s given) refused app short size flags validator given.note calls_store (λ name row handle options first status calls store plan free_row free_handle begins quiet. nothing_told)
-  kept (App app) (ask.Share name) = by_share s (IsKept s given) refused app name (λ row handle free. nothing_told)
-  kept (App app) (ask.Unregister handle) = by_unregister s (IsKept s given) refused app handle (λ h place own. nothing_told)
-  kept (App app) (ask.LoadImage handle image) = by_load_image s (IsKept s given) refused given (λ row t bytes number verdict there is one bad. judged_badly row t bytes number verdict (answered s ERR_VALIDATION_FAILED (verdict_bits verdict)) there is one refl) copies app handle image.list
-      (λ row t there none no_function. one_told s given (activated row t) (Some image.list ∷ []) [] (λ r. refl)) (λ row t number verdict there none is one good. judged_well row t image.list number verdict (activate_effect s row t image.list) there is one refl)
-  kept (App app) (ask.LoadFile handle name) = by_load_file s (IsKept s given) refused given (λ row t bytes number verdict there is one bad. judged_badly row t bytes number verdict (answered s ERR_VALIDATION_FAILED (verdict_bits verdict)) there is one refl) copies app handle name
-      (λ row t file there open_to none no_function. one_told s given (activated row t) (Some (file_image t file) ∷ []) [] (λ r. refl)) (λ row t file number verdict there open_to none is one good. judged_well row t (file_image t file) number verdict (from_file row name (activate_effect s row t (file_image t file))) there is one refl)
-  kept (App app) (ask.Update handle) = by_update s (IsKept s given) refused app handle given.note copies (λ row t there none. one_told s given (activated row t) (Some (load_image t) ∷ []) [] (λ r. refl))
-  kept (App app) (ask.Validate handle) = by_app_validate s (IsKept s given) refused app handle given (λ row t active there first. finished_told s given row t active (judged_image t active) (verdict_at 0 given) there (λ some. refl))
-  kept (App app) (ask.Manage handle) = by_manage s (IsKept s given) refused app handle given copies (λ row t there. manages 0 row)
-  kept (App app) (ask.DumpToBuffer handle) = by_dump_to_buffer s (IsKept s given) refused app handle (λ row t there is. nothing_told)
-  kept (App app) (ask.Edit handle offset bytes) = by_edit s (IsKept s given) refused app handle offset bytes.list (λ row t there none. nothing_told)
-  kept (App app) (ask.Get handle) = by_get s (IsKept s given) refused app handle (λ a leads some. nothing_told)
-  kept (App app) (ask.Read handle offset len) = by_read s (IsKept s given) refused app handle offset len (λ a leads pinned inside. nothing_told)
-  kept (App app) (ask.Release handle) = by_release s (IsKept s given) refused app handle (λ a leads pinned. nothing_told)
-  kept (App app) (ask.GetStatus handle) = by_get_status s (IsKept s given) refused app handle (λ row t. nothing_told)
-  kept (App app) (ask.GetInfo name) = by_info s (IsKept s given) refused app name (λ t. nothing_told)
-  kept (App app) (ask.Notify handle msg code parameter) = by_notify s (IsKept s given) refused app handle msg code parameter (λ row t there is. nothing_told)
-  kept (App app) ask.Exit = by_exit s (IsKept s given) refused app nothing_told
-  kept (App app) (ask.CdsRegister name size) = by_cds_register s (IsKept s given) refused given.note calls_store app name size
-  kept (App app) (ask.CdsCopy slot image) = by_cds_copy s (IsKept s given) refused given.note calls_store app slot image.list
-  kept (App app) (ask.CdsRestore slot) = by_cds_restore s (IsKept s given) refused given.note calls_store app slot
-  kept (App app) (ask.CdsDelete slot) = by_cds_delete s (IsKept s given) refused given.note calls_store app slot
-  kept (App app) _ = tt
+  kept actor request = part (λ e tells. tells.kept) (effect_of s actor request given) (told actor request)

@@ -15,15 +15,14 @@ pub mod Pins
 pub mod PinsLoaded
 pub mod PinsKept
 pub mod Fair
-pub mod FairManage
 pub mod FairRequests
 pub mod WholeLaws
 pub mod Honest
-pub mod Inheriting
 pub mod HonestImages
 pub mod HonestManage
 pub mod HonestRequests
 pub mod KeptEvents
+pub mod CauseLemmas
 pub mod Kept
 pub mod VouchedLaws
 pub mod Blocks
@@ -38,5 +37,4 @@ pub mod BackedLaws
 pub mod Crashes
 pub mod CompletedLaws
 pub mod SuitedRequests
-pub mod CrashedBlocks
 pub mod RecoveryLaws

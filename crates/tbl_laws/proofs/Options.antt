@@ -58,17 +58,11 @@ module _ (s : State) (row : ℕ) (t : Table) where
           let stands = descends.each row u at in
           ap (λ (p : List ℕ × ℕ × ℕ). p.2) stands.same ∙ ap (λ (v : Table). v.options) (same_Some stands.table t (sym stands.there ∙ there))
 
-    pub updated_options : IfSome (table_at (updated_effect s row t).next.tables row) (λ (u : Table). u.options ≡ t.options)
-    updated_options = options_stay _ (update_descends s.tables row s.seconds s.sub)
-
     pub update_options : IfSome (table_at (by_answer s (update_refusal s.tables row t) (updated_effect s row t)).next.tables row) (λ (u : Table). u.options ≡ t.options)
     update_options = options_stay _ update_leaves
 
     pub load_image_options : (image : List ℕ) (given : Given) → IfSome (table_at (load_image_of s image given row t).next.tables row) (λ (u : Table). u.options ≡ t.options)
     load_image_options image given = options_stay _ (load_image_leaves image given)
-
-    pub load_file_options : (name : List ℕ) (given : Given) (file : TableFile) → IfSome (table_at (load_file_of s name given row t file).next.tables row) (λ (u : Table). u.options ≡ t.options)
-    load_file_options name given file = options_stay _ (load_file_leaves name given file)
 
     pub app_file_options : (name : List ℕ) (given : Given) → IfSome (table_at (by_answer s (closed_refusal t) (if_file s name (load_file_of s name given row t))).next.tables row) (λ (u : Table). u.options ≡ t.options)
     app_file_options name given = options_stay _ (app_file_leaves name given)

@@ -1,6 +1,6 @@
 -- What changes of the tables do to pins: each handle that pins an image goes on to lead to that image.
 use Rattle.std.specs.Prelude.{replicate, IfSome}
-use Rattle.std.proofs.Common.{◌≡◌, ◌≢◌, ◌<◌, ◌≤◌, ℕ, ◌+◌, ◌-◌, eqb, nat_lt, zero, suc, List, [], ◌∷◌, length, replicate, position, slice_index_or, slice_set, Bool, true, false, cond, Option, Some, None, is_some, is_none, IsSome, refl, ap, sym, ◌∙◌, subst, ◌⊎◌, inl, inr, arith}
+use Rattle.std.proofs.Common.{◌≡◌, ◌≢◌, ◌<◌, ◌≤◌, ℕ, ◌+◌, ◌-◌, eqb, nat_lt, zero, suc, List, [], ◌∷◌, length, replicate, position, slice_index_or, slice_set, Bool, true, false, cond, Option, Some, None, is_some, IsSome, refl, ap, sym, ◌∙◌, subst, ◌⊎◌, inl, inr, arith}
 use Rattle.std.specs.List.{list_any, position_or_len}
 use Rattle.std.proofs.lemmas.Bool.{cases_eq, cases_lt, eqb-true, eq-eqb, ne_eqb, and_parts, not-false}
 use Rattle.std.proofs.lemmas.Bool.Decides.{nat_tests}
@@ -52,10 +52,6 @@ none_passes p xs k x none there =
 pub some_there : {X : Type 0} (o : Option X) → is_some o ≡ true → (x : X) × (o ≡ Some x)
 some_there None is = absurd (cc is)
 some_there (Some x) is = (x, refl)
-
-pub none_there : {X : Type 0} (o : Option X) → is_none o ≡ true → o ≡ None
-none_there None free = refl
-none_there (Some x) free = cc free
 
 -- ---- the image of a pin
 

@@ -38,7 +38,7 @@ use Rattle.tbl_session.specs.Completed.{completed, HasCompleted}
 use Rattle.tbl_session.specs.Recovery.{IsHistory, blocks_at, IsBlockOf, IsShown, WasCopied, Registration, registering, Registers, Begins, Recovers, BeginsEmpty, ComesBack, request_of, started}
 use Rattle.tbl_laws.proofs.Blocks.{is_of_parts}
 use Rattle.tbl_laws.proofs.Calls.{all_done}
-use Rattle.tbl_laws.proofs.CrashedBlocks.{crash_shows, crash_single, left_single, IsLeft, is_left, open_shown, open_found}
+use Rattle.tbl_laws.proofs.Crashes.{crash_shows, crash_single, left_single, IsLeft, is_left, open_shown, open_found}
 
 -- ---- a registration that finds its block
 
