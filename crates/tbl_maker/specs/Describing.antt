@@ -1,8 +1,11 @@
 -- What describing a file by a shape answers.
-use Rattle.std.specs.Prelude.{◌≡◌, ℕ, ◌+◌, ◌==◌, Bool, ◌&&◌, nat_lt, nat_le, if◌then◌else◌, List, length, is_none, Option, Some, None}
+use Rattle.std.specs.Prelude.{◌≡◌, ℕ, ◌+◌, ◌==◌, Bool, ◌&&◌, nat_lt, nat_le, if◌then◌else◌, List, length, is_none, Option, Some, None, Result, true, false, IfOk, IfErr, OnOk, IfSome, IfNone, OnSome}
 use Rattle.tbl_kinds.specs.Limits.{table_limit}
 use Rattle.tbl_kinds.specs.Admitted.{all_admitted}
+use Rattle.tbl_kinds.specs.Buffers.{Buffer}
 use Rattle.tbl_kinds.specs.TableFiles.{TableFile, file_flaw, table_file_in}
+use Rattle.table_files.specs.Files.{with_image}
+use Rattle.table_files.specs.declared.reading.TableFile.{TableFile as ParsedFile}
 use Rattle.tbl_maker.specs.Names.{is_full_name}
 use Rattle.tbl_maker.specs.Shapes.{shape_size}
 use Rattle.tbl_maker.specs.Descriptions.{Description, IsDescription, shape_of, contents_of, text_of}
@@ -42,3 +45,16 @@ pub record IsDescribedBy (shape : List Form) (bytes text : List ℕ) : Type 0 wh
   pub shape_is : shape_of description ≡ shape
   pub contents_are : contents_of description ≡ table_file_in bytes
   pub text_is : text ≡ text_of description
+
+-- a table file that can be described is found with its image bytes
+pub record FindsContents {R : Type 0} (now : R → List ℕ) (bytes : List ℕ) (result : Option (ParsedFile × R)) : Type 0 where
+  pub contents : IfSome result (λ found. with_image found.0 (now found.1) ≡ table_file_in bytes)
+  pub some : OnSome result (is_describable bytes ≡ true)
+  pub count : IfSome result (λ found. found.0.count ≡ length (now found.1))
+  pub none : IfNone result (is_describable bytes ≡ false)
+
+-- a file is described by a shape, or it is told why it isn't
+pub record DescribesByShape (shape : List Form) (bytes : List ℕ) (result : Result Buffer DescribeFault) : Type 0 where
+  pub described : IfOk result (λ text. IsDescribedBy shape bytes text.list)
+  pub ok : OnOk result (describe_fault shape bytes ≡ None)
+  pub fault : IfErr result (λ fault. IsFault (describe_fault shape bytes) fault)

@@ -36,6 +36,10 @@ lines_of d = table_line d.name ∷ offset_line d.offset ∷ map field_line d.fie
 abbrev pub ended : List ℕ → List ℕ
 ended line = line ++ 10 ∷ []
 
+-- the lines of the table and the offset
+abbrev pub head_of : List ℕ → ℕ → List ℕ
+head_of name offset = ended (table_line name) ++ ended (offset_line offset)
+
 -- each line is ended by a newline
 abbrev pub text_of : Description → List ℕ
 text_of d = flat_map ended (lines_of d)

@@ -1,5 +1,5 @@
 -- Hexadecimal digits, 0 to 9 and A to F.
-use Rattle.std.specs.Prelude.{◌≡◌, ℕ, ◌<◌, true}
+use Rattle.std.specs.Prelude.{◌≡◌, ℕ, ◌<◌, true, Option, IfSome, IfNone}
 use Rattle.std.specs.Fmt.{digit_glyph}
 
 -- the byte stands for this digit
@@ -9,3 +9,8 @@ pub record IsDigit (byte digit : ℕ) : Type 0 where
 
 abbrev pub IsNoDigit : ℕ → Type 0
 IsNoDigit byte = (digit : ℕ) → digit < 16 → byte ≡ digit_glyph true digit → ⊥
+
+-- the digit is found, or the byte stands for none
+pub record FindsDigit (byte : ℕ) (result : Option ℕ) : Type 0 where
+  pub some : IfSome result (λ digit. IsDigit byte digit)
+  pub none : IfNone result (IsNoDigit byte)

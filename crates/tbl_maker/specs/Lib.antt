@@ -7,6 +7,7 @@ pub mod Descriptions
 pub mod Making
 pub mod Describing
 pub mod Digits
+pub mod Laws
 pub mod Lines
 pub mod Parts
 pub mod Words

@@ -1,5 +1,5 @@
 -- What making a file of a text answers.
-use Rattle.std.specs.Prelude.{◌≡◌, ℕ, ◌<◌, List, ◌++◌, length, Result, Ok, Err}
+use Rattle.std.specs.Prelude.{◌≡◌, ℕ, ◌<◌, List, ◌++◌, length, Result, Ok, Err, IfOk, IfErr}
 use Rattle.std.specs.List.{flat_map}
 use Rattle.tbl_kinds.specs.Buffers.{Buffer}
 use Rattle.tbl_maker.specs.Descriptions.{Description, IsDescription, lines_of, ended, text_of, file_of}
@@ -44,3 +44,9 @@ abbrev pub Makes : Result Buffer MakeFault → List ℕ → Type 0
 Makes (Ok made) file = made.list ≡ file
 Makes (Err (Line number)) file = ⊥
 Makes (Err Memory) file = Unit {0}
+
+-- the file of a description is made of its text, of each description's, and of no other text
+pub record MakesOfText (text : List ℕ) (result : Result Buffer MakeFault) : Type 0 where
+  pub made : IfOk result (λ file. IsMadeOf text file.list)
+  pub descriptions : (d : Description) → IsDescription d → text ≡ text_of d → Makes result (file_of d)
+  pub line : IfErr result (λ fault. TellsLine text fault)

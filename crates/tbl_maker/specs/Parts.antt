@@ -1,10 +1,10 @@
 -- What the parts of reading and writing find.
-use Rattle.std.specs.Prelude.{◌≡◌, ℕ, ◌+◌, ◌<◌, ◌≤◌, ◌^◌, List, [], ◌∷◌, ◌++◌, map, length, true, ℤ, unsigned_abs}
+use Rattle.std.specs.Prelude.{◌≡◌, ℕ, ◌+◌, ◌<◌, ◌≤◌, ◌^◌, List, [], ◌∷◌, ◌++◌, map, length, true, ℤ, unsigned_abs, Option, Result, IfOk, IfSome, IfNone}
 use Rattle.std.specs.Int.{to_be_bytes, cast_unsigned}
 use Rattle.std.specs.Fmt.{decimal, signed_decimal}
 use Rattle.std.specs.List.{flat_map}
 use Rattle.tbl_maker.specs.Names.{is_full_name}
-use Rattle.tbl_maker.specs.Types.{width_of, type_word}
+use Rattle.tbl_maker.specs.Types.{width_of, modulus_of, type_word}
 use Rattle.tbl_maker.specs.Values.{Value, IsValue, IsHexValue, IsInRange, hex_pair, type_of, value_text, bytes_of}
 use Rattle.tbl_maker.specs.Fields.{Field, IsField, AreFields, field_line, field_bytes, form_of, image_of}
 use Rattle.tbl_maker.specs.Descriptions.{ended, table_line, offset_line}
@@ -36,6 +36,20 @@ pub record ReadsNumber (sign : Sign) (width : Width) (text bytes : List ℕ) : T
 
 abbrev pub IsNoNumberOf : Sign → Width → List ℕ → Type 0
 IsNoNumberOf sign width text = (z : ℤ) → IsInRange sign width z → text ≡ signed_decimal z → ⊥
+
+-- the bits of a number in two's complement, and those that bytes have
+pub record AreBitsOf (width : Width) (number : ℤ) (result : ℕ) : Type 0 where
+  pub bits : result ≡ cast_unsigned (width_of width) number
+  pub fits : result < modulus_of width
+
+pub record AreBitsIn (width : Width) (bytes : List ℕ) (result : ℕ) : Type 0 where
+  pub spelled : to_be_bytes (width_of width) result ≡ bytes
+  pub fits : result < modulus_of width
+
+-- the number of the type that has these bytes
+pub record IsNumberIn (sign : Sign) (width : Width) (spelling : List ℕ) (z : ℤ) : Type 0 where
+  pub in_range : IsInRange sign width z
+  pub bytes : to_be_bytes (width_of width) (cast_unsigned (width_of width) z) ≡ spelling
 
 pub record ReadsHex (text bytes : List ℕ) : Type 0 where
   pub is_value : IsHexValue bytes
@@ -85,6 +99,12 @@ pub record AddsField (text rest old new : List ℕ) (room : ℕ) : Type 0 where
 -- the next line is no field's whose bytes would end within the room
 abbrev pub AddsNone : List ℕ → ℕ → ℕ → Type 0
 AddsNone text used room = (f : Field) (rest : List ℕ) → IsField f → text ≡ field_line f ++ 10 ∷ rest → used + length (field_bytes f) ≤ room → ⊥
+
+-- the next line's field is put to the image, and the rest of the text told; or nothing is done
+pub record AddsOr {R : Type 0} {E : Type 0} (now : R → List ℕ) (text old new : List ℕ) (room : ℕ) (result : Result (Option R) E) : Type 0 where
+  pub some : IfOk result (λ found. IfSome found (λ rest. AddsField text (now rest) old new room))
+  pub none : IfOk result (λ found. IfNone found (AddsNone text (length old) room))
+  pub same : IfOk result (λ found. IfNone found (new ≡ old))
 
 -- the text is the lines of fields, and this is their image
 pub record ReadsFields (text image : List ℕ) (room : ℕ) : Type 0 where

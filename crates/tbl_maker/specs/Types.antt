@@ -1,5 +1,5 @@
 -- The types that a field of a table can have.
-use Rattle.std.specs.Prelude.{ℕ, ◌^◌, List, ◌∷◌, ◌++◌, codes}
+use Rattle.std.specs.Prelude.{◌≡◌, ℕ, ◌^◌, List, ◌∷◌, ◌++◌, codes, Option, IfSome, IfNone}
 use Rattle.std.specs.Int.{w8, w16, w32, byte_len}
 use Rattle.std.specs.Int as int
 use Rattle.std.specs.Fmt.{decimal}
@@ -45,3 +45,16 @@ type_word (Hex len) = codes "hex"
 abbrev pub sized_word : FieldType → List ℕ
 sized_word (Number sign width) = sign_letter sign ∷ width_digits width
 sized_word (Hex len) = codes "hex" ++ decimal len
+
+-- the width with these digits is found, the sign with this letter, or both in a word; or there is none
+pub record FindsWidth (digits : List ℕ) (result : Option Width) : Type 0 where
+  pub some : IfSome result (λ width. digits ≡ width_digits width)
+  pub none : IfNone result ((width : Width) → digits ≡ width_digits width → ⊥)
+
+pub record FindsSign (letter : ℕ) (result : Option Sign) : Type 0 where
+  pub some : IfSome result (λ sign. letter ≡ sign_letter sign)
+  pub none : IfNone result ((sign : Sign) → letter ≡ sign_letter sign → ⊥)
+
+pub record FindsNumberType (word : List ℕ) (result : Option (Sign × Width)) : Type 0 where
+  pub some : IfSome result (λ kind. word ≡ sign_letter kind.0 ∷ width_digits kind.1)
+  pub none : IfNone result ((sign : Sign) (width : Width) → word ≡ sign_letter sign ∷ width_digits width → ⊥)

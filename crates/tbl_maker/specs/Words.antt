@@ -1,5 +1,5 @@
 -- What the parts of reading a shape find.
-use Rattle.std.specs.Prelude.{◌≡◌, ℕ, ◌+◌, ◌≤◌, List, [], ◌∷◌, ◌++◌, true}
+use Rattle.std.specs.Prelude.{◌≡◌, ℕ, ◌+◌, ◌≤◌, List, [], ◌∷◌, ◌++◌, true, Option, Result, IfOk, IfSome, IfNone}
 use Rattle.tbl_maker.specs.Types.{sized_word}
 use Rattle.tbl_maker.specs.Shapes.{is_type, is_form, form_size, form_word, is_shape, shape_word}
 use Rattle.tbl_maker.specs.declared.field_type.FieldType.{FieldType}
@@ -25,3 +25,14 @@ AddsNoForm word room = (form : Form) → is_form form ≡ true → word ≡ form
 
 abbrev pub IsNoShape : List ℕ → Type 0
 IsNoShape word = (shape : List Form) → is_shape shape ≡ true → word ≡ shape_word shape → ⊥
+
+-- the form of this word is put last, and the room that is left told; or there is none
+pub record AddsFormOr {E : Type 0} (word : List ℕ) (old new : List Form) (room : ℕ) (result : Result (Option ℕ) E) : Type 0 where
+  pub some : IfOk result (λ found. IfSome found (λ left. AddsForm word old new room left))
+  pub none : IfOk result (λ found. IfNone found (AddsNoForm word room))
+
+-- the shape that has this word is read, or there is none
+pub record ReadsShape {E : Type 0} (word : List ℕ) (result : Result (Option (List Form)) E) : Type 0 where
+  pub some : IfOk result (λ found. IfSome found (λ shape. word ≡ shape_word shape))
+  pub shape : IfOk result (λ found. IfSome found (λ shape. is_shape shape ≡ true))
+  pub none : IfOk result (λ found. IfNone found (IsNoShape word))

@@ -1,14 +1,12 @@
 //! Describing a table file in text.
 
-ghost use Rattle.std.specs.Prelude.{◌≡◌, ◌+◌, ◌≤◌, ◌++◌, ◌&&◌, nat_lt, nat_le, length, IfOk, IfErr, OnOk, IfSome, IfNone, OnSome, None, true, false};
+ghost use Rattle.std.specs.Prelude.{◌≡◌, ◌+◌, ◌≤◌, ◌++◌, ◌&&◌, nat_lt, nat_le, length, OnOk, true};
 ghost use Rattle.std.specs.List.{list_all};
 ghost use Rattle.tbl_kinds.specs.Limits.{table_limit};
-ghost use Rattle.tbl_kinds.specs.TableFiles.{table_file_in};
-ghost use Rattle.table_files.specs.Files.{with_image};
 ghost use Rattle.tbl_maker.specs.Names.{is_full_name};
 ghost use Rattle.tbl_maker.specs.Shapes.{is_form, shape_size};
-ghost use Rattle.tbl_maker.specs.Descriptions.{table_line, offset_line, ended};
-ghost use Rattle.tbl_maker.specs.Describing.{is_describable, describe_fault, IsFault, IsDescribedBy};
+ghost use Rattle.tbl_maker.specs.Descriptions.{head_of};
+ghost use Rattle.tbl_maker.specs.Describing.{FindsContents, DescribesByShape};
 ghost use Rattle.tbl_maker.specs.Parts.{PutsFields};
 
 use crate::field::put_field;
@@ -62,10 +60,7 @@ fn can_be_described(file: &TableFile) -> bool
 
 /// A table file that can be described, and its image bytes.
 fn describable(bytes: &[u8]) -> Option<(TableFile, &[u8])>
-    ensures contents { IfSome result (λ found. with_image found.0 found.1.now ≡ table_file_in bytes.now) }
-    ensures some { OnSome result (is_describable bytes.now ≡ true) }
-    ensures count { IfSome result (λ found. found.0.count ≡ length found.1.now) }
-    ensures none { IfNone result (is_describable bytes.now ≡ false) }
+    ensures { FindsContents (λ image. image.now) bytes.now result }
 {
     let Ok(file) = read_table_file(bytes, &Admit::all()) else {
         return None;
@@ -91,7 +86,7 @@ fn size_of(forms: &[Form]) -> u32
 
 /// Appends the lines of the table and the offset.
 fn put_head(out: &mut Bytes, file: &TableFile) -> Result<(), Memory>
-    ensures { OnOk result (out.new.list ≡ out.old.list ++ (ended (table_line file.now.name) ++ ended (offset_line file.now.offset))) }
+    ensures { OnOk result (out.new.list ≡ out.old.list ++ head_of file.now.name file.now.offset) }
 {
     append_text(out, b"table ")?;
     append_text(out, file.name.bytes())?;
@@ -121,10 +116,7 @@ fn put_fields(out: &mut Bytes, forms: &[Form], image: &[u8]) -> Result<(), Memor
 /// ran out.
 pub fn describe_file(alloc: Global, shape: &Shape, file: &[u8]) -> Result<Bytes, DescribeFault>
     // The text is that of the one description of this shape that tells what the file tells.
-    ensures described { IfOk result (λ text. IsDescribedBy shape.now file.now text.list) }
-    // When it is described, and why it isn't.
-    ensures ok { OnOk result (describe_fault shape.now file.now ≡ None) }
-    ensures fault { IfErr result (λ fault. IsFault (describe_fault shape.now file.now) fault) }
+    ensures { DescribesByShape shape.now file.now result }
 {
     let Some((contents, image)) = describable(file) else {
         return Err(DescribeFault::File);

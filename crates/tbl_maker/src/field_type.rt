@@ -1,10 +1,8 @@
 //! The types that a field of a table can have.
 
-ghost use Rattle.std.specs.Prelude.{◌≡◌, ◌∷◌, pos, IfSome, IfNone};
+ghost use Rattle.std.specs.Prelude.{◌≡◌, pos};
 ghost use Rattle.std.specs.Int.{byte_len};
-ghost use Rattle.tbl_maker.specs.Types.{width_of, modulus_of, size_of, sign_letter, width_digits};
-ghost use Rattle.tbl_maker.specs.declared.field_type.Sign.{Sign};
-ghost use Rattle.tbl_maker.specs.declared.field_type.Width.{Width};
+ghost use Rattle.tbl_maker.specs.Types.{width_of, modulus_of, size_of, sign_letter, width_digits, FindsWidth, FindsSign, FindsNumberType};
 
 /// Whether the numbers of a type can be negative.
 #[derive(Clone, Copy, Debug, PartialEq, Eq)]
@@ -103,8 +101,7 @@ impl FieldType {
 }
 
 fn width_in(digits: &[u8]) -> Option<Width>
-    ensures some { IfSome result (λ width. digits.now ≡ width_digits width) }
-    ensures none { IfNone result ((width : Width) → digits.now ≡ width_digits width → ⊥) }
+    ensures { FindsWidth digits.now result }
 {
     if digits == b"8".as_slice() {
         Some(Width::One)
@@ -118,8 +115,7 @@ fn width_in(digits: &[u8]) -> Option<Width>
 }
 
 fn sign_in(letter: u8) -> Option<Sign>
-    ensures some { IfSome result (λ sign. letter ≡ sign_letter sign) }
-    ensures none { IfNone result ((sign : Sign) → letter ≡ sign_letter sign → ⊥) }
+    ensures { FindsSign letter result }
 {
     match letter {
         b'u' => Some(Sign::Unsigned),
@@ -130,8 +126,7 @@ fn sign_in(letter: u8) -> Option<Sign>
 
 /// The sign and the width of the type of numbers that has this word.
 pub(crate) fn number_type(word: &[u8]) -> Option<(Sign, Width)>
-    ensures some { IfSome result (λ kind. word.now ≡ sign_letter kind.0 ∷ width_digits kind.1) }
-    ensures none { IfNone result ((sign : Sign) (width : Width) → word.now ≡ sign_letter sign ∷ width_digits width → ⊥) }
+    ensures { FindsNumberType word.now result }
 {
     let (letter, digits) = word.split_first()?;
     let sign = sign_in(*letter)?;

@@ -1,11 +1,10 @@
 //! Making a table file from its description in text.
 
-ghost use Rattle.std.specs.Prelude.{◌≡◌, ◌+◌, ◌<◌, ◌≤◌, ◌++◌, length, IfSome, IfNone, IfOk, IfErr, OnOk, true};
+ghost use Rattle.std.specs.Prelude.{◌≡◌, ◌≤◌, length, IfSome, IfNone, IfOk, IfErr};
 ghost use Rattle.tbl_kinds.specs.Limits.{table_limit};
-ghost use Rattle.tbl_maker.specs.Names.{is_full_name};
-ghost use Rattle.tbl_maker.specs.Descriptions.{Description, IsDescription, text_of, file_of, made_header};
-ghost use Rattle.tbl_maker.specs.Making.{IsMadeOf, IsLeastBadLine, TellsLine, Makes};
-ghost use Rattle.tbl_maker.specs.Parts.{ReadsTable, IsNoTable, ReadsOffset, IsNoOffset, AddsField, AddsNone, ReadsFields, StopsAfter, StopsAt};
+ghost use Rattle.tbl_maker.specs.Descriptions.{made_header};
+ghost use Rattle.tbl_maker.specs.Making.{IsMadeOf, TellsLine, MakesOfText};
+ghost use Rattle.tbl_maker.specs.Parts.{ReadsTable, IsNoTable, ReadsOffset, IsNoOffset, AddsOr, ReadsFields, StopsAt};
 ghost use Rattle.tbl_kinds.specs.TableFiles.{table_file};
 ghost use Rattle.cfe_headers.specs.FileHeaders.{header_of};
 
@@ -80,9 +79,7 @@ fn offset_line(text: &[u8]) -> Option<(u32, &[u8])>
 /// Appends the value of the field of the next line, and gives what follows the line. None where the next line is no
 /// field's, or the image would become longer than the room.
 fn add_field<'a>(image: &mut Bytes, text: &'a [u8], room: u32) -> Result<Option<&'a [u8]>, Memory>
-    ensures some { IfOk result (λ found. IfSome found (λ rest. AddsField text.now rest.now image.old.list image.new.list room)) }
-    ensures none { IfOk result (λ found. IfNone found (AddsNone text.now (length image.old.list) room)) }
-    ensures same { IfOk result (λ found. IfNone found (image.new.list ≡ image.old.list)) }
+    ensures { AddsOr (λ rest. rest.now) text.now image.old.list image.new.list room result }
 {
     let Some((line, rest)) = split_at_byte(text, b'\n') else {
         return Ok(None);
@@ -183,12 +180,9 @@ fn described_file(alloc: Global, text: &[u8]) -> Result<Bytes, MakeFault>
 /// big-endian, in two's complement where negative, without gaps. `Line`: the text is no description. `Memory`: memory ran
 /// out.
 pub fn make_file(alloc: Global, text: &[u8]) -> Result<Bytes, MakeFault>
-    // What is made is the file of the description whose text this is.
-    ensures made { IfOk result (λ file. IsMadeOf text.now file.list) }
-    // Each description's file is made of its text, unless memory runs out.
-    ensures descriptions { (d : Description) → IsDescription d → text.now ≡ text_of d → Makes result (file_of d) }
+    // What is made is the file of the description whose text this is. Each description's file is made of its text, unless memory runs out.
     // The line is told exactly of a text that is no description's.
-    ensures line { IfErr result (λ fault. TellsLine text.now fault) }
+    ensures { MakesOfText text.now result }
 {
     described_file(alloc, text)
 }

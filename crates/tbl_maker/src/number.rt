@@ -1,11 +1,11 @@
 //! Numbers as decimal digits, and as big-endian bytes, for all types.
 
 ghost use Rattle.std.specs.Prelude.{◌≡◌, ◌<◌, ◌↔◌, length, pos, ◌≤ℤ◌, ◌<ℤ◌, IsTrue, IfSome, IfNone};
-ghost use Rattle.std.specs.Int.{to_be_bytes, cast_unsigned, byte_len};
+ghost use Rattle.std.specs.Int.{to_be_bytes, byte_len};
 ghost use Rattle.std.specs.Fmt.{decimal, signed_decimal};
 ghost use Rattle.tbl_maker.specs.Types.{width_of, modulus_of};
 ghost use Rattle.tbl_maker.specs.Values.{IsInRange};
-ghost use Rattle.tbl_maker.specs.Parts.{IsModerate, IsNoNumber, IsNoCount, ReadsNumber, IsNoNumberOf};
+ghost use Rattle.tbl_maker.specs.Parts.{AreBitsIn, AreBitsOf, IsNoCount, IsNoNumber, IsNoNumberOf, IsNumberIn, ReadsNumber};
 
 use crate::field_type::{Sign, Width};
 use crate::value::ValueBytes;
@@ -60,8 +60,7 @@ fn is_in_range(sign: Sign, width: Width, number: i64) -> bool
 /// The number in two's complement, where it is negative.
 fn bits_of(sign: Sign, width: Width, number: i64) -> u32
     requires { IsInRange sign width number }
-    ensures bits { result ≡ cast_unsigned (width_of width) number }
-    ensures fits { result < modulus_of width }
+    ensures { AreBitsOf width number result }
 {
     let modulus = width.modulus();
     let bits = if number < 0 { number + modulus } else { number };
@@ -95,8 +94,7 @@ pub(crate) fn number_bytes(sign: Sign, width: Width, text: &[u8]) -> Option<Valu
 
 fn bits_in(width: Width, bytes: &[u8]) -> u32
     requires { length bytes.now ≡ byte_len (width_of width) }
-    ensures bytes { to_be_bytes (width_of width) result ≡ bytes.now }
-    ensures fits { result < modulus_of width }
+    ensures { AreBitsIn width bytes.now result }
 {
     match width {
         Width::One => u32::from(bytes[0]),
@@ -108,8 +106,7 @@ fn bits_in(width: Width, bytes: &[u8]) -> u32
 /// The number of this type that has these bytes.
 pub(crate) fn number_of(sign: Sign, width: Width, bytes: &[u8]) -> i64
     requires { length bytes.now ≡ byte_len (width_of width) }
-    ensures in_range { IsInRange sign width result }
-    ensures bytes { to_be_bytes (width_of width) (cast_unsigned (width_of width) result) ≡ bytes.now }
+    ensures { IsNumberIn sign width bytes.now result }
 {
     let modulus = width.modulus();
     let bits = i64::from(bits_in(width, bytes));

@@ -4,7 +4,7 @@ ghost use Rattle.std.specs.Prelude.{◌≡◌, ◌+◌, ◌≤◌, ◌∷◌, �
 ghost use Rattle.tbl_kinds.specs.Limits.{table_limit};
 ghost use Rattle.tbl_maker.specs.Types.{sized_word};
 ghost use Rattle.tbl_maker.specs.Shapes.{is_type, is_form, form_size, form_word, is_shape, shape_word, shape_size};
-ghost use Rattle.tbl_maker.specs.Words.{IsNoType, IsNoForm, AddsForm, AddsNoForm, IsNoShape};
+ghost use Rattle.tbl_maker.specs.Words.{IsNoType, IsNoForm, AddsFormOr, ReadsShape};
 ghost use Rattle.tbl_maker.specs.declared.form.Form.{Form};
 
 use crate::field_type::{FieldType, number_type};
@@ -89,8 +89,7 @@ fn form_in(word: &[u8]) -> Option<Form>
 /// Appends the form of a field that has this word, and gives the room that is left. None where it is no form, or has no
 /// room.
 fn add_form(forms: &mut Vec<Form>, word: &[u8], room: usize) -> Result<Option<usize>, Memory>
-    ensures some { IfOk result (λ found. IfSome found (λ left. AddsForm word.now forms.old.items forms.new.items room left)) }
-    ensures none { IfOk result (λ found. IfNone found (AddsNoForm word.now room)) }
+    ensures { AddsFormOr word.now forms.old.items forms.new.items room result }
 {
     let Some(form) = form_in(word) else {
         return Ok(None);
@@ -105,9 +104,7 @@ fn add_form(forms: &mut Vec<Form>, word: &[u8], room: usize) -> Result<Option<us
 /// The shape that a word writes: `TYPE:NAME` for each field, joined by commas, where hex is written with its number of
 /// bytes, `hexN:NAME`. None exactly where the word is no shape, or one of more than 16,384 bytes.
 pub fn read_shape(alloc: Global, word: &[u8]) -> Result<Option<Shape>, Memory>
-    ensures some { IfOk result (λ found. IfSome found (λ shape. word.now ≡ shape_word shape)) }
-    ensures shape { IfOk result (λ found. IfSome found (λ shape. is_shape shape ≡ true)) }
-    ensures none { IfOk result (λ found. IfNone found (IsNoShape word.now)) }
+    ensures { ReadsShape word.now result }
 {
     let mut forms = Vec::new(alloc);
     let mut rest = word;

@@ -7,7 +7,7 @@ ghost use Rattle.tbl_maker.specs.Types.{size_of};
 ghost use Rattle.tbl_maker.specs.Values.{hex_pair};
 ghost use Rattle.tbl_maker.specs.Shapes.{is_type};
 ghost use Rattle.tbl_maker.specs.Parts.{ReadsHex, IsNoHex, ReadsValue, IsNoValue, PutsValue};
-ghost use Rattle.tbl_maker.specs.Digits.{IsDigit, IsNoDigit};
+ghost use Rattle.tbl_maker.specs.Digits.{FindsDigit};
 
 use crate::field_type::{FieldType, number_type};
 use crate::number::{number_bytes, number_of};
@@ -21,8 +21,7 @@ pub(crate) type ValueBytes = ArrayVec<u8, 64>;
 
 /// What a hexadecimal digit stands for; None for other bytes, small letters among them.
 fn digit_in(byte: u8) -> Option<u8>
-    ensures some { IfSome result (λ digit. IsDigit byte digit) }
-    ensures none { IfNone result (IsNoDigit byte) }
+    ensures { FindsDigit byte result }
 {
     match byte {
         b'0'..=b'9' => Some(byte - b'0'),

@@ -1,5 +1,7 @@
 use Rattle.tbl_maker.proofs.BadLines.{makes}
 use Rattle.tbl_maker.proofs.making.make_file.Goals as goal
 
-pub returns-clause-descriptions : goal.returns-clause-descriptions
-returns-clause-descriptions c d h e = makes c.described_file.result c.args.text.now c.described_file.ensures.made c.described_file.ensures.line d h e
+pub returns : goal.returns
+returns c =
+    let made = c.described_file.ensures in
+    record { made = made.made; descriptions = λ d h e. makes c.described_file.result c.args.text.now made.made made.line d h e; line = made.line }
