@@ -1,12 +1,9 @@
 //! Writes entries to a sink.
 
-ghost use Rattle.std.specs.Prelude.{◌≡◌, ◌≤◌, ◌<◌, ◌^◌, ◌++◌, length, OnOk, OnErr, IfErr};
-ghost use Rattle.std.specs.Io.KnownBytes.{append_known};
+ghost use Rattle.std.specs.Prelude.{◌≡◌, ◌<◌, ◌^◌, ◌++◌, length};
 ghost use Rattle.tbl_kinds.specs.Transcript.{fields_of, entry_bytes};
-ghost use Rattle.tbl_outside.specs.Counts.{Rose};
-ghost use Rattle.tbl_outside.specs.Streams.{TakesFront};
 ghost use Rattle.transcript.specs.Writing.{front_of, rest_of};
-ghost use Rattle.entry_output.specs.Writing.{Takes, Breaks};
+ghost use Rattle.entry_output.specs.Writing.{TakesWhole, Writes, taken_of};
 
 use tbl_kinds::Entry;
 use tbl_outside::{Failed, Sink};
@@ -32,11 +29,7 @@ fn write_pieces<K: Sink>(
     second: &[u8],
     third: &[u8],
 ) -> Result<(), Failed>
-    ensures ok { OnOk result (K.taken sink.new ≡ append_known (K.taken sink.old) (first.now ++ second.now ++ third.now)) }
-    ensures front { OnErr result (TakesFront (K.taken sink.old) (K.taken sink.new) (first.now ++ second.now ++ third.now)) }
-    ensures still { OnOk result (K.faults sink.new ≡ K.faults sink.old) }
-    ensures cause { OnErr result (Rose (K.faults sink.old) (K.faults sink.new)) }
-    ensures count { K.faults sink.old ≤ K.faults sink.new }
+    ensures { TakesWhole (first.now ++ second.now ++ third.now) (taken_of K.Sink sink.old) (taken_of K.Sink sink.new) result }
 {
     sink.write(first)?;
     sink.write(second)?;
@@ -51,11 +44,7 @@ fn write_parts<K: Sink>(
     sink: &mut K,
 ) -> Result<(), Failed>
     requires { around.now ≡ front_of (fields_of place entry.now) ++ rest_of (fields_of place entry.now) }
-    ensures ok { OnOk result (K.taken sink.new ≡ append_known (K.taken sink.old) (entry_bytes place entry.now)) }
-    ensures front { OnErr result (TakesFront (K.taken sink.old) (K.taken sink.new) (entry_bytes place entry.now)) }
-    ensures still { OnOk result (K.faults sink.new ≡ K.faults sink.old) }
-    ensures cause { OnErr result (Rose (K.faults sink.old) (K.faults sink.new)) }
-    ensures count { K.faults sink.old ≤ K.faults sink.new }
+    ensures { TakesWhole (entry_bytes place entry.now) (taken_of K.Sink sink.old) (taken_of K.Sink sink.new) result }
 {
     let (front, rest) = around.split_at(FRONT_LENGTH);
     write_pieces(sink, front, entry.reply.bytes.bytes(), rest)
@@ -71,9 +60,7 @@ fn write_long<K: Sink>(
 ) -> Result<(), WriteFault>
     requires bytes { length entry.now.reply.bytes.list < 2 ^ 32 }
     requires packets { length entry.now.reply.packets.list < 2 ^ 32 }
-    ensures takes { OnOk result (Takes (entry_bytes place entry.now) (K.taken sink.old, K.faults sink.old) (K.taken sink.new, K.faults sink.new)) }
-    ensures breaks { IfErr result (λ fault. Breaks fault (entry_bytes place entry.now) (K.taken sink.old, K.faults sink.old) (K.taken sink.new, K.faults sink.new)) }
-    ensures count { K.faults sink.old ≤ K.faults sink.new }
+    ensures { Writes (entry_bytes place entry.now) (taken_of K.Sink sink.old) (taken_of K.Sink sink.new) result }
 {
     let Ok(around) = spell_around(room, place, entry) else {
         return Err(WriteFault::Memory);
@@ -94,9 +81,7 @@ pub fn write_entry<K: Sink>(
 ) -> Result<(), WriteFault>
     requires bytes { length entry.now.reply.bytes.list < 2 ^ 32 }
     requires packets { length entry.now.reply.packets.list < 2 ^ 32 }
-    ensures takes { OnOk result (Takes (entry_bytes place entry.now) (K.taken sink.old, K.faults sink.old) (K.taken sink.new, K.faults sink.new)) }
-    ensures breaks { IfErr result (λ fault. Breaks fault (entry_bytes place entry.now) (K.taken sink.old, K.faults sink.old) (K.taken sink.new, K.faults sink.new)) }
-    ensures count { K.faults sink.old ≤ K.faults sink.new }
+    ensures { Writes (entry_bytes place entry.now) (taken_of K.Sink sink.old) (taken_of K.Sink sink.new) result }
 {
     if entry.reply.bytes.bytes().len() >= LONG_REPLY {
         return write_long(room, place, entry, sink);
