@@ -23,13 +23,7 @@ returns-clause-tells c = λ request is bytes note.
     let sub = c.args.clock.sub in
     let tables = c.args.tables.now in
     let answer = c.args.answer in
-    let report : Reported = record {
-      table = c.report.inside.table;
-      events = c.report.inside.events.items;
-      shown = c.report.inside.shown;
-      notice = c.report.inside.notice;
-      verdicts = c.report.inside.verdicts;
-    } in
+    let report : Reported = record { table = c.report.inside.table; events = c.report.inside.events.items; shown = c.report.inside.shown; notice = c.report.inside.notice; verdicts = c.report.inside.verdicts } in
     let done = reported_effect answer bytes report note in
     let read : ReadCommand = Some (read_of c.args.command.now) in
     let before = counts_view c.args.counters.now in
@@ -58,12 +52,5 @@ returns-clause-tells c = λ request is bytes note.
 pub returns-clause-len : goal.returns-clause-len
 returns-clause-len c =
     let none : length c.args.packets.now.list ≡ 0 = ap length c.requires.room.none in
-    let few = c.requires.few in
     let events : length c.events.result.now ≡ length c.args.report.now.events = ap length c.events.ensures in
-    let a = c.put_command.ensures.len in
-    let b = c.put_events.ensures.len in
-    let f = c.put_shown.ensures.len in
-    let h = c.put_notice.ensures.len in
-    let shown = shown_within c.report.inside.shown in
-    let notice = notice_within c.report.inside.notice in
-    omega (arith, none, few, events, a, b, f, h, shown, notice)
+    omega (arith, none, c.requires.few, events, c.put_command.ensures.len, c.put_events.ensures.len, c.put_shown.ensures.len, c.put_notice.ensures.len, shown_within c.report.inside.shown, notice_within c.report.inside.notice)

@@ -5,12 +5,7 @@ use Rattle.tlm_packets.proofs.Events.{read_event, spells_event}
 use Rattle.tlm_packets.proofs.reading.read_event.Goals as goal
 
 pub returns-in_err-body : goal.returns-in_err-body
-returns-in_err-body c = record {
-  spelled = search rules;
-  again = λ event s.
-      let e : false ≡ true = c.in_err-body.ensures.has_head ∙ (read_event c.args.bytes.now event s).head in
-      absurd cc;
-}
+returns-in_err-body c = record { spelled = search rules; again = λ event s. let e : false ≡ true = c.in_err-body.ensures.has_head ∙ (read_event c.args.bytes.now event s).head in absurd cc }
 
 pub returns : goal.returns
 returns c = record {

@@ -6,12 +6,7 @@ use Rattle.tlm_packets.proofs.States.{read_housekeeping, spells_housekeeping}
 use Rattle.tlm_packets.proofs.reading.read_housekeeping.Goals as goal
 
 pub returns-in_err-body : goal.returns-in_err-body
-returns-in_err-body c = record {
-  spelled = search rules;
-  again = λ value s.
-      let e : false ≡ true = c.in_err-body.ensures.has_head ∙ (read_housekeeping c.args.bytes.now value s).head in
-      absurd cc;
-}
+returns-in_err-body c = record { spelled = search rules; again = λ value s. let e : false ≡ true = c.in_err-body.ensures.has_head ∙ (read_housekeeping c.args.bytes.now value s).head in absurd cc }
 
 pub returns : goal.returns
 returns c = record {
