@@ -2,7 +2,6 @@
 use Rattle.std.proofs.Common.{◌≡◌, ◌+◌, ◌≤◌, ◌-◌, ◌^◌, ◌<◌, ℕ, suc, List, [], ◌∷◌, length, count_by, Bool, true, false, Option, Some, None, ℤ, refl, sym, ap, arith}
 use Rattle.std.specs.Option.{option_map}
 use Rattle.tbl_model.specs.State.{Table}
-use Rattle.tbl_model.specs.Pending.{is_pending}
 use Rattle.tbl_model.specs.Telemetry.{Question}
 use Rattle.tbl_model.specs.Validations.{judged_image, questions, marked, judged}
 use Rattle.tbl_outside.specs.declared.validator.Validator.{Ghosts as ValidatorGhosts}
@@ -14,7 +13,7 @@ use Rattle.validation.proofs.Ready.{all_keep, judged_keeps, asked_has_functions,
 use Rattle.desk.specs.Desk.{Rest, state_at, IsOrderly}
 use Rattle.desk.specs.Limits.{AreCounted}
 use Rattle.desk.specs.declared.desk.Desk.{Desk}
-use Rattle.update_requests.specs.Judging.{IsReady, CanJudge, judged_by}
+use Rattle.update_requests.specs.Judging.{IsReady, judged_by}
 
 -- ---- before
 
@@ -25,12 +24,6 @@ ready v times desk le orderly = record {
   few = λ number entry there. let low = orderly.few number entry there in omega (arith, le, low);
   pending = orderly.pending;
   loads = orderly.loads;
-}
-
-pub can_judge : {C : Type 0} (v : ValidatorGhosts C) (row : ℕ) (active : Bool) (desk : Desk C) → is_pending row active desk.pending ≡ true → IsReady v 1 desk → CanJudge v row active desk
-can_judge v row active desk pending is = record {
-  can = is.pending row active pending;
-  may = λ t there number has. (is.functions row t there number has, is.few number);
 }
 
 -- ---- the kit

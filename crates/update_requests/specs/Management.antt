@@ -1,5 +1,5 @@
 -- All that is pending for a table, which its owner has done.
-use Rattle.std.specs.Prelude.{◌≡◌, ℕ, ◌+◌, ◌≤◌, ◌==◌, List, [], ◌∷◌, Bool, if◌then◌else◌, Option, Some, None}
+use Rattle.std.specs.Prelude.{◌≡◌, ℕ, ◌+◌, ◌≤◌, ◌==◌, List, [], ◌∷◌, Bool, if◌then◌else◌, Option, Some, None, IsSome}
 use Rattle.std.specs.Option.{ForSome}
 use Rattle.std.proofs.Common.{ℤ}
 use Rattle.tbl_kinds.specs.declared.entry.Answer.{Answer}
@@ -7,7 +7,8 @@ use Rattle.tbl_kinds.specs.declared.status.TheConstants.Status.{SUCCESS, INFO_UP
 use Rattle.tbl_model.specs.Tables.{table_at}
 use Rattle.tbl_model.specs.Management.{manage_of}
 use Rattle.request_effects.specs.Reports.{nothing_reported}
-use Rattle.desk.specs.Desk.{Output}
+use Rattle.tbl_outside.specs.declared.validator.Validator.{Ghosts as ValidatorGhosts}
+use Rattle.desk.specs.Desk.{IsOrderly, Output}
 use Rattle.desk.specs.Requests.{Meaning, for_row}
 use Rattle.desk.specs.Rooms.{copy_room, manage_room}
 use Rattle.desk.specs.declared.desk.Desk.{Desk}
@@ -15,8 +16,10 @@ use Rattle.desk.specs.declared.desk.Desk.{Desk}
 abbrev pub management : ℕ → Meaning
 management row = for_row row (λ s given t. manage_of s given row t) 3 (λ tables. copy_room (table_at tables row))
 
--- nothing is answered yet, and there is room for the byte of the reply, and for all that is reported
-pub record HasPlace {C : Type 0} (row : ℕ) (desk : Desk C) (out : Output) : Type 0 where
+-- the table is there, nothing is answered yet, and there is room for the byte of the reply, and for all that is reported
+pub record HasPlace {C : Type 0} (v : ValidatorGhosts C) (row : ℕ) (desk : Desk C) (out : Output) : Type 0 where
+  pub table : IsSome (table_at desk.tables row)
+  pub orderly : IsOrderly v desk
   pub bytes : out.reply.bytes.list ≡ []
   pub packets : out.reply.packets.list ≡ []
   pub report : out.report ≡ nothing_reported

@@ -1,18 +1,17 @@
 //! Loads go active: the ground asks for it, and the owners of tables do it.
 
-ghost use Rattle.std.specs.Prelude.{◌≡◌, ◌-◌, ◌<◌, ◌≤◌, ◌^◌, ◌++◌, [], ◌∷◌, length, if◌then◌else◌, IsSome, is_some, OnOk};
+ghost use Rattle.std.specs.Prelude.{◌≡◌, ◌-◌, ◌<◌, ◌≤◌, ◌^◌, length, IsSome, OnOk};
 ghost use Rattle.std.specs.Option.{ForSome};
 ghost use Rattle.tbl_kinds.specs.declared.entry.Reply.{Reply as Replied};
 ghost use Rattle.tbl_model.specs.Tables.{table_at};
-ghost use Rattle.tbl_model.specs.Telemetry.{activated};
 ghost use Rattle.tbl_model.specs.Refusals.{activation_refusal, update_refusal};
 ghost use Rattle.validation.specs.Ready.{HasItsLoad};
-ghost use Rattle.request_effects.specs.Reports.{nothing_reported, most_events};
+ghost use Rattle.request_effects.specs.Reports.{most_events};
 ghost use Rattle.desk.specs.Desk.{IsOrderly, IsEmpty, output};
 ghost use Rattle.desk.specs.Requests.{Made, Served};
 ghost use Rattle.desk.specs.Rooms.{update_room};
-ghost use Rattle.update_requests.specs.Activations.{activation, activation_in, update_in, with_update};
-ghost use Rattle.update_requests.specs.Rooms.{IsFree, notice_room};
+ghost use Rattle.update_requests.specs.Activations.{activation, activation_in, update_in, Updates};
+ghost use Rattle.update_requests.specs.Rooms.{IsAsked, IsFree, notice_room};
 
 use bitflags::Flags;
 use desk::{Desk, EVENT_LENGTH, NOTICE_LENGTH, activated, copy_room, event_room, named};
@@ -26,12 +25,9 @@ use validation::Pending;
 
 /// Why the activation of the load of the table of a row isn't requested, if it isn't.
 fn activation_refusal(tables: &Tables, pending: &Pending, row: u8) -> Option<Answer>
-    requires { IsSome (table_at tables.now row) }
     ensures { ForSome (table_at tables.now row) (λ t. result ≡ activation_refusal pending.now row t) }
 {
-    let Some(table) = tables.row(row) else {
-        unreachable!();
-    };
+    let table = tables.row(row)?;
     if table.flags.contains(Options::DUMP_ONLY) {
         return Some(Answer::plain(Status::ERR_DUMP_ONLY));
     }
@@ -65,9 +61,7 @@ fn take_notice_room(tables: &Tables, reply: &mut Reply, row: u8) -> Result<(), M
 
 /// Asks that the load of the table of a row goes active. It does once the owner, who is to be notified, updates the table.
 fn request_activation<C: Validator>(desk: &mut Desk<C>, report: &mut Report, row: u8) -> Answer
-    requires table { IsSome (table_at desk.old.tables row) }
-    requires orderly { IsOrderly C.Validator desk.old }
-    requires report { report.old ≡ nothing_reported }
+    requires { IsAsked C.Validator row desk.old report.old }
     ensures made { (reply : Replied) → ForSome (table_at desk.old.tables row) (λ t. IsFree (notice_room t) reply)
         → Made C.Validator (activation_in row) desk.old desk.new (output reply report.new) result }
 {
@@ -104,12 +98,9 @@ pub fn activate<C: Validator>(
 
 /// Why the load of the table of a row doesn't go active, if it doesn't.
 fn update_refusal(tables: &Tables, row: u8) -> Option<Answer>
-    requires { IsSome (table_at tables.now row) }
     ensures { ForSome (table_at tables.now row) (λ t. result ≡ update_refusal tables.now row t) }
 {
-    let Some(table) = tables.row(row) else {
-        unreachable!();
-    };
+    let table = tables.row(row)?;
     if !table.asked {
         return Some(Answer::plain(Status::INFO_NO_UPDATE_PENDING));
     }
@@ -132,11 +123,7 @@ pub(crate) fn take_update<C: Validator>(
     requires load { ForSome (table_at desk.old.tables row) HasItsLoad }
     requires few { ForSome (table_at desk.old.tables row) (λ t. t.count < 2 ^ 32 - 1) }
     requires events { length report.old.events < most_events }
-    ensures refusal { ForSome (table_at desk.old.tables row) (λ t. result ≡ update_refusal desk.old.tables row t) }
-    ensures desk { desk.new ≡ (if is_some result then desk.old else with_update row desk.old) }
-    ensures report { ForSome (table_at desk.old.tables row) (λ t.
-        report.new ≡ (if is_some result then report.old else record report.old { events = report.old.events ++ activated row t ∷ [] })) }
-    ensures table { IsSome (table_at desk.new.tables row) }
+    ensures { Updates row result desk.old desk.new report.old report.new }
 {
     if let Some(answer) = update_refusal(&desk.tables, row) {
         return Some(answer);

@@ -1,23 +1,19 @@
 //! All that is pending for a table, which its owner has done or asks for.
 
-ghost use Rattle.std.specs.Prelude.{◌≡◌, ◌+◌, ◌≤◌, ◌<◌, ℕ, [], ◌∷◌, ◌++◌, length, if◌then◌else◌, None, IsSome, is_some};
+ghost use Rattle.std.specs.Prelude.{◌≡◌, if◌then◌else◌, IsSome};
 ghost use Rattle.std.specs.Option.{ForSome};
 ghost use Rattle.tbl_model.specs.State.{State};
 ghost use Rattle.tbl_model.specs.Tables.{table_at};
 ghost use Rattle.tbl_model.specs.TableSteps.{fill_dump};
-ghost use Rattle.tbl_model.specs.Pending.{is_pending};
 ghost use Rattle.tbl_model.specs.Effects.{answered};
 ghost use Rattle.tbl_model.specs.Management.{is_requested, pending_status, get_status_effect};
-ghost use Rattle.validation.specs.Asked.{WasAsked};
-ghost use Rattle.request_effects.specs.Reports.{nothing_reported, most_events};
 ghost use Rattle.desk.specs.Desk.{IsOrderly, IsEmpty, output};
 ghost use Rattle.desk.specs.Requests.{Made, Served};
 ghost use Rattle.desk.specs.Rooms.{manage_room};
-ghost use Rattle.update_requests.specs.Judging.{IsReady, judged_by, judged_events, judged_questions};
 ghost use Rattle.update_requests.specs.Management.{management, verdicts_of, bits_of, answer_by, HasPlace};
 
 use crate::activations::{take_update, update_room};
-use crate::judging::finish;
+use crate::judging::validate_pending;
 use desk::{Desk, check, event_room};
 use request_effects::Report;
 use tbl_kinds::{Answer, Memory, Reply, Status};
@@ -35,36 +31,13 @@ fn manage_room(tables: &Tables, pending: &Pending, row: u8) -> usize
     update_room(tables, row) + first + second
 }
 
-/// The validation of this image of the table of a row is done, if it is pending. The verdict.
-fn validate_pending<C: Validator>(
-    desk: &mut Desk<C>,
-    report: &mut Report,
-    row: u8,
-    active: bool,
-) -> Option<i32>
-    requires table { IsSome (table_at desk.old.tables row) }
-    requires ready { IsReady C.Validator 1 desk.old }
-    requires events { length report.old.events < most_events }
-    ensures told { is_some result ≡ is_pending row active desk.old.pending }
-    ensures desk { desk.new ≡ judged_by row active result desk.new.kit desk.old }
-    ensures report { ForSome (table_at desk.old.tables row) (λ t. report.new ≡ record report.old { events = report.old.events ++ judged_events row active t result }) }
-    ensures asked { ForSome (table_at desk.old.tables row) (λ t. WasAsked C.verdict C.asked desk.old.kit desk.new.kit (judged_questions active t result) (result ∷ None ∷ [])) }
-    ensures ready { (times : ℕ) → IsReady C.Validator (times + 1) desk.old → IsReady C.Validator times desk.new }
-{
-    if !desk.pending.has(row, active) {
-        return None;
-    }
-    Some(finish(desk, report, row, active))
-}
-
 /// The dump of the table of a row is filled with its last image, if one is requested. Whether it was.
 fn fill_pending(tables: &mut Tables, row: u8) -> bool
-    requires { IsSome (table_at tables.old row) }
     ensures filled { ForSome (table_at tables.old row) (λ t. result ≡ is_requested t.dump) }
     ensures tables { tables.new ≡ (if result then fill_dump row tables.old else tables.old) }
 {
     let Some(table) = tables.row(row) else {
-        unreachable!();
+        return false;
     };
     if table.dump != Dump::Asked {
         return false;
@@ -112,9 +85,7 @@ fn manage_all<C: Validator>(
     report: &mut Report,
     row: u8,
 ) -> Answer
-    requires table { IsSome (table_at desk.old.tables row) }
-    requires orderly { IsOrderly C.Validator desk.old }
-    requires place { HasPlace row desk.old (output reply.old report.old) }
+    requires { HasPlace C.Validator row desk.old (output reply.old report.old) }
     ensures made { Made C.Validator (management row) desk.old desk.new (output reply.new report.new) result }
 {
     let first = validate_pending(desk, report, row, true);
@@ -152,11 +123,10 @@ pub fn manage<C: Validator>(
 
 /// What is pending for the table in the row.
 fn status(tables: &Tables, pending: &Pending, row: u8) -> Status
-    requires { IsSome (table_at tables.now row) }
     ensures { ForSome (table_at tables.now row) (λ t. result ≡ pending_status pending.now row t) }
 {
     let Some(table) = tables.row(row) else {
-        unreachable!();
+        return Status::SUCCESS;
     };
     if pending.has(row, true) || pending.has(row, false) {
         return Status::INFO_VALIDATION_PENDING;

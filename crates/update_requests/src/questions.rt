@@ -1,15 +1,13 @@
 //! What a request of a table's owner would ask of validation functions, before it is played.
 
-ghost use Rattle.std.specs.Prelude.{◌≡◌, IsSome, IfOk};
+ghost use Rattle.std.specs.Prelude.{◌≡◌, IfOk};
 ghost use Rattle.std.specs.Option.{ForSome};
 ghost use Rattle.tbl_model.specs.Tables.{table_at};
-ghost use Rattle.tbl_model.specs.Given.{Given};
 ghost use Rattle.tbl_model.specs.Management.{manage_of};
 ghost use Rattle.tbl_model.specs.Validations.{validation_of};
 ghost use Rattle.validation.specs.Ready.{ArePending};
-ghost use Rattle.desk.specs.Desk.{Rest, state_at};
-ghost use Rattle.desk.specs.Questions.{asked, all_asked};
-ghost use Rattle.update_requests.specs.Questions.{pending_asked};
+ghost use Rattle.desk.specs.Questions.{asked};
+ghost use Rattle.update_requests.specs.Questions.{WouldAsk, pending_asked};
 
 use desk::{Desk, Question, Questions};
 use tbl_kinds::{Bytes, Memory};
@@ -21,15 +19,14 @@ fn pending_asks<C: Validator>(
     row: u8,
     active: bool,
 ) -> Result<Option<Question>, Memory>
-    requires table { IsSome (table_at desk.now.tables row) }
-    requires pending { ArePending desk.now.tables desk.now.pending }
+    requires { ArePending desk.now.tables desk.now.pending }
     ensures asks { IfOk result (λ it. ForSome (table_at desk.now.tables row) (λ t. asked it ≡ pending_asked desk.now.pending row t active)) }
 {
     if !desk.pending.has(row, active) {
         return Ok(None);
     }
     let Some(table) = desk.tables.row(row) else {
-        unreachable!();
+        return Ok(None);
     };
     let Some(number) = table.validator else {
         return Ok(None);
@@ -43,10 +40,8 @@ fn pending_asks<C: Validator>(
 
 /// What `app_validate` would ask.
 pub fn validate_asks<C: Validator>(desk: &Desk<C>, row: u8) -> Result<Questions, Memory>
-    requires table { IsSome (table_at desk.now.tables row) }
-    requires pending { ArePending desk.now.tables desk.now.pending }
-    ensures asks { IfOk result (λ it. (rest : Rest) (given : Given)
-        → ForSome (table_at desk.now.tables row) (λ t. (validation_of (state_at rest desk.now) given row t).questions ≡ all_asked it)) }
+    requires { ArePending desk.now.tables desk.now.pending }
+    ensures asks { WouldAsk desk.now row (λ s given t. validation_of s given row t) result }
 {
     let active = desk.pending.has(row, true);
     Ok(Questions::only(pending_asks(desk, row, active)?))
@@ -54,10 +49,8 @@ pub fn validate_asks<C: Validator>(desk: &Desk<C>, row: u8) -> Result<Questions,
 
 /// What `manage` would ask.
 pub fn manage_asks<C: Validator>(desk: &Desk<C>, row: u8) -> Result<Questions, Memory>
-    requires table { IsSome (table_at desk.now.tables row) }
-    requires pending { ArePending desk.now.tables desk.now.pending }
-    ensures asks { IfOk result (λ it. (rest : Rest) (given : Given)
-        → ForSome (table_at desk.now.tables row) (λ t. (manage_of (state_at rest desk.now) given row t).questions ≡ all_asked it)) }
+    requires { ArePending desk.now.tables desk.now.pending }
+    ensures asks { WouldAsk desk.now row (λ s given t. manage_of s given row t) result }
 {
     let last = pending_asks(desk, row, true)?;
     let load = pending_asks(desk, row, false)?;

@@ -1,20 +1,19 @@
 //! Validations, which the ground asks for and owners have done.
 
-ghost use Rattle.std.specs.Prelude.{◌≡◌, ◌≢◌, ◌++◌, ◌∷◌, [], if◌then◌else◌, true, Some, None, IsSome, IfSome, IfNone, is_some};
+ghost use Rattle.std.specs.Prelude.{◌≡◌, ◌++◌, ◌∷◌, [], if◌then◌else◌, true, Some, IsSome, IfSome, is_some};
 ghost use Rattle.std.specs.Option.{ForSome};
 ghost use Rattle.tbl_kinds.specs.declared.entry.Reply.{Reply as Replied};
 ghost use Rattle.tbl_model.specs.Tables.{table_at};
-ghost use Rattle.tbl_model.specs.Fit.{HasImage};
 ghost use Rattle.tbl_model.specs.Pending.{is_pending};
 ghost use Rattle.tbl_model.specs.Telemetry.{is_good, verdict_bits};
 ghost use Rattle.tbl_model.specs.Validations.{first_pending};
 ghost use Rattle.request_effects.specs.Reports.{nothing_reported};
 ghost use Rattle.desk.specs.Desk.{IsOrderly, IsEmpty, output};
 ghost use Rattle.desk.specs.Requests.{Made, Served};
-ghost use Rattle.update_requests.specs.Rooms.{IsFree};
+ghost use Rattle.update_requests.specs.Rooms.{IsAsked, MadeIn};
 ghost use Rattle.update_requests.specs.Validations.{validation, validation_in, selected_validation, missing_refusal, full_refusal, app_validation};
 
-use crate::judging::{conclude, finish};
+use crate::judging::{conclude, validate_pending};
 use desk::{Desk, EVENT_LENGTH};
 use request_effects::{Report, notice, subject};
 use tbl_kinds::{Answer, Memory, Name40, Reply, Status};
@@ -26,12 +25,9 @@ use validation::{PendFault, Pending};
 
 /// What is missing for a validation of this image of the table of a row, if something is.
 fn missing(tables: &Tables, row: u8, active: bool) -> Option<Answer>
-    requires { IsSome (table_at tables.now row) }
     ensures { ForSome (table_at tables.now row) (λ t. result ≡ missing_refusal t active) }
 {
-    let Some(table) = tables.row(row) else {
-        unreachable!();
-    };
+    let table = tables.row(row)?;
     if active && table.count == 0 {
         return Some(Answer::plain(Status::ERR_NEVER_LOADED));
     }
@@ -47,13 +43,12 @@ fn missing(tables: &Tables, row: u8, active: bool) -> Option<Answer>
 
 /// Whether the table of the row has a validation function.
 fn has_function(tables: &Tables, row: u8) -> bool
-    requires { IsSome (table_at tables.now row) }
     ensures { ForSome (table_at tables.now row) (λ t. result ≡ is_some t.validator) }
 {
-    let Some(table) = tables.row(row) else {
-        unreachable!();
-    };
-    table.validator.is_some()
+    match tables.row(row) {
+        Some(table) => table.validator.is_some(),
+        None => false,
+    }
 }
 
 /// The validation of this image comes after those that are pending, or is refused.
@@ -76,10 +71,8 @@ fn request_validation<C: Validator>(
     row: u8,
     active: bool,
 ) -> Answer
-    requires table { IsSome (table_at desk.old.tables row) }
-    requires orderly { IsOrderly C.Validator desk.old }
-    requires report { report.old ≡ nothing_reported }
-    ensures made { (reply : Replied) → IsFree 48 reply → Made C.Validator (validation_in row (Some active)) desk.old desk.new (output reply report.new) result }
+    requires { IsAsked C.Validator row desk.old report.old }
+    ensures made { MadeIn 48 C.Validator (validation_in row (Some active)) desk.old desk.new report.new result }
 {
     if let Some(answer) = missing(&desk.tables, row, active) {
         return answer;
@@ -102,10 +95,8 @@ fn validate_selected<C: Validator>(
     row: u8,
     select: u16,
 ) -> Answer
-    requires table { IsSome (table_at desk.old.tables row) }
-    requires orderly { IsOrderly C.Validator desk.old }
-    requires report { report.old ≡ nothing_reported }
-    ensures made { (reply : Replied) → IsFree 48 reply → Made C.Validator (selected_validation row select) desk.old desk.new (output reply report.new) result }
+    requires { IsAsked C.Validator row desk.old report.old }
+    ensures made { MadeIn 48 C.Validator (selected_validation row select) desk.old desk.new report.new result }
 {
     match desk.tables.selected(row, select) {
         None => Answer::plain(Status::ERR_BAD_SELECT),
@@ -177,7 +168,9 @@ pub fn app_validate<C: Validator>(desk: &mut Desk<C>, report: &mut Report, row: 
     let Some(active) = first_pending(&desk.pending, row) else {
         return Answer::plain(Status::INFO_NO_VALIDATION_PENDING);
     };
-    let verdict = finish(desk, report, row, active);
+    let Some(verdict) = validate_pending(desk, report, row, active) else {
+        unreachable!();
+    };
     report.judge([Some(verdict), None]);
     verdict_answer(verdict)
 }
