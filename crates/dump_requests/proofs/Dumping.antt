@@ -11,7 +11,7 @@ use Rattle.tbl_model.specs.Effects.{answered}
 use Rattle.tbl_model.specs.Management.{is_requested}
 use Rattle.tbl_model.specs.Dumps.{dump_file, Ended, end_by, then_end, is_filled, dumps_ended, housekeeping_effect}
 use Rattle.tbl_model.specs.declared.telemetry.TelemetryEvent.{TelemetryEvent}
-use Rattle.tbl_model.specs.declared.telemetry.TelemetryEvent.TheVariants.{Dumped}
+use Rattle.tbl_model.specs.declared.telemetry.TelemetryEvent.TheVariants.{Dumped, NotDumped}
 use Rattle.tbl_model.specs.declared.telemetry.Shown.TheVariants.{Housekeeping}
 use Rattle.tbl_kinds.specs.declared.status.TheConstants.Status.{SUCCESS}
 use Rattle.dump_requests.specs.Images.{filled_name, filled_file}
@@ -44,6 +44,17 @@ module _ (s : State) (w : Written) (n len : ℕ) (file : List ℕ) where
       by quiet name of_len = absurd (cc name)
       by (requested other) name of_len = absurd (cc name)
       by (filled other image) name of_len = let same = same_Some other file name in rw (same, room, of_len) refl
+
+-- or dropped, if the drawer is full, and that is reported
+pub is_dropped : (s : State) (w : Written) (n : ℕ) (file : List ℕ) (x : Option Table) → table_at s.tables n ≡ x → filled_name x ≡ Some file → is_full_for w.drawer file ≡ true
+    → then_write s w n ≡ record { drawer = w.drawer; bytes = w.bytes; events = w.events ++ NotDumped n ∷ [] }
+is_dropped s w n file None there name full = absurd (cc name)
+is_dropped s w n file (Some t) there name full = rw there (by t.dump name)
+  where
+    by : (dump : Dump) → filled_name (Some (record t { dump = dump })) ≡ Some file → files_of (end_by (with_files s w) n t.name dump) ≡ record { drawer = w.drawer; bytes = w.bytes; events = w.events ++ NotDumped n ∷ [] }
+    by quiet name = absurd (cc name)
+    by (requested other) name = absurd (cc name)
+    by (filled other image) name = let same = same_Some other file name in rw (same, full) refl
 
 -- a filled one is written, and ends
 written_and_ended : (s : State) (tables : Tables) (w : Written) (n : ℕ) (x : Option Table) → table_at s.tables n ≡ x → table_at tables n ≡ x → is_filled x ≡ true

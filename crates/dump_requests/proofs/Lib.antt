@@ -1,4 +1,5 @@
 pub mod Asking
 pub mod Dumping
+pub mod Filing
 pub mod Records
 pub mod Unasked

@@ -1,10 +1,18 @@
 -- The files of dumps, and how long they are.
-use Rattle.std.specs.Prelude.{ℕ, ◌+◌, List, [], length, Option, Some, None, option_and_then}
+use Rattle.std.specs.Prelude.{◌≡◌, ℕ, ◌+◌, ◌≤◌, ◌++◌, List, [], length, Option, Some, None, is_some, IfSome, IfNone, option_and_then}
+use Rattle.tbl_kinds.specs.Buffers.{Buffer}
 use Rattle.std.specs.Option.{option_map, option_map_or}
 use Rattle.tbl_kinds.specs.TableFiles.{image_place}
 use Rattle.tbl_model.specs.State.{State, Table, Dump, quiet, requested, filled}
-use Rattle.tbl_model.specs.Dumps.{dump_file}
+use Rattle.tbl_model.specs.Dumps.{dump_file, is_filled}
 use Rattle.tbl_registry.specs.Views.{filled_image}
+use Rattle.request_effects.specs.declared.clock.Clock.{Clock}
+
+-- a file of so many bytes that is written at this time was appended
+pub record AppendsFile (old new : Buffer) (clock : Clock) (file : State → List ℕ) (count : ℕ) : Type 0 where
+  pub bytes : (s : State) → s.seconds ≡ clock.seconds → s.sub ≡ clock.sub → new.list ≡ old.list ++ file s
+  pub room : old.spare ≤ new.spare + count
+  pub len : length new.list ≡ length old.list + count
 
 -- ---- filled dumps of the table of a row, if there is one
 
@@ -24,6 +32,14 @@ filled_file s found = option_map_or (λ (t : Table). option_map_or (dump_file s 
 -- how many these are
 abbrev pub filled_file_len : Option Table → Option ℕ
 filled_file_len found = option_map (λ (image : List ℕ). image_place + length image) (option_and_then (λ (t : Table). filled_image t.dump) found)
+
+-- its file was appended, which is written at this time and has this name; or there is none, and nothing was appended
+pub record AppendsFilled (old new : Buffer) (clock : Clock) (found : Option Table) (file : Option (List ℕ)) : Type 0 where
+  pub name : file ≡ filled_name found
+  pub filled : is_some file ≡ is_filled found
+  pub bytes : (s : State) → s.seconds ≡ clock.seconds → s.sub ≡ clock.sub → new.list ≡ old.list ++ filled_file s found
+  pub len : IfSome (filled_file_len found) (λ len. length new.list ≡ length old.list + len)
+  pub none : IfNone file (new ≡ old)
 
 -- ---- the registry's file
 

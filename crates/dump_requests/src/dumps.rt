@@ -5,10 +5,9 @@ ghost use Rattle.std.specs.Option.{ForSome};
 ghost use Rattle.tbl_model.specs.Tables.{table_at, is_dump_only, is_quiet, in_use};
 ghost use Rattle.tbl_model.specs.Dumps.{dump_effect, dump_registry_effect, dump_refusal, image_dump_effect};
 ghost use Rattle.request_effects.specs.Effects.{reply_limit};
-ghost use Rattle.desk.specs.Limits.{AreSendable};
 ghost use Rattle.desk.specs.Desk.{Rest, state_at, IsOrderly, IsEmpty, output};
 ghost use Rattle.desk.specs.Requests.{Made, Served, command};
-ghost use Rattle.dump_requests.specs.Dumps.{file_dump, table_dump, owner_dump, missing_status, comes_to};
+ghost use Rattle.dump_requests.specs.Dumps.{CanDump, file_dump, table_dump, owner_dump, missing_status, comes_to};
 
 use crate::files::{registry_file_len, write_image, write_registry};
 use bitflags::Flags;
@@ -115,13 +114,12 @@ fn image_file<C: Validator>(
 
 /// Whether the table of the row is dump-only.
 fn is_dump_only(tables: &Tables, row: u8) -> bool
-    requires { IsSome (table_at tables.now row) }
     ensures { ForSome (table_at tables.now row) (λ t. result ≡ is_dump_only t) }
 {
-    let Some(table) = tables.row(row) else {
-        unreachable!();
-    };
-    table.flags.contains(Options::DUMP_ONLY)
+    match tables.row(row) {
+        Some(table) => table.flags.contains(Options::DUMP_ONLY),
+        None => false,
+    }
 }
 
 /// Why the dump of the dump-only table of a row isn't requested, if it isn't.
@@ -152,12 +150,8 @@ fn ask_owner<C: Validator>(
     row: u8,
     file: &Name64,
 ) -> Answer
-    requires table { IsSome (table_at desk.old.tables row) }
+    requires can { CanDump row desk.old (output reply.old report.old) }
     requires dump_only { ForSome (table_at desk.old.tables row) (λ t. is_dump_only t ≡ true) }
-    requires notices { AreSendable desk.old.tables }
-    requires empty { IsEmpty (output reply.old report.old) }
-    requires users { 4 ≤ reply.old.bytes.spare }
-    requires packets { 48 ≤ reply.old.packets.spare }
     ensures made { Made C.Validator (owner_dump row file.now) desk.old desk.new (output reply.new report.new) result }
 {
     if let Some(answer) = dump_refusal(&desk.tables, row) {
@@ -177,11 +171,7 @@ fn dump_found<C: Validator>(
     row: u8,
     asked: &DumpCommand,
 ) -> Result<Answer, Memory>
-    requires table { IsSome (table_at desk.old.tables row) }
-    requires notices { AreSendable desk.old.tables }
-    requires empty { IsEmpty (output reply.old report.old) }
-    requires users { 4 ≤ reply.old.bytes.spare }
-    requires packets { 48 ≤ reply.old.packets.spare }
+    requires { CanDump row desk.old (output reply.old report.old) }
     ensures served { Served C.Validator (table_dump row asked.now.select asked.now.file) desk.old desk.new (output reply.new report.new) result }
 {
     let Some(active) = desk.tables.selected(row, asked.select) else {

@@ -1,6 +1,6 @@
 //! The files that dumps are written as.
 
-ghost use Rattle.std.specs.Prelude.{◌≡◌, ◌<◌, ◌≤◌, ◌+◌, ◌*◌, ◌++◌, ℕ, List, length, Some, IsSome, IfSome, IfNone, is_some, if◌then◌else◌};
+ghost use Rattle.std.specs.Prelude.{◌≡◌, ◌≤◌, ◌+◌, ◌*◌, ◌++◌, ℕ, List, length, IsSome, IfSome, is_some, if◌then◌else◌};
 ghost use Rattle.std.specs.List.{flat_map};
 ghost use Rattle.tbl_kinds.specs.Limits.{table_limit};
 ghost use Rattle.tbl_kinds.specs.Names.{name_field};
@@ -10,7 +10,7 @@ ghost use Rattle.tbl_model.specs.State.{State};
 ghost use Rattle.tbl_model.specs.Tables.{table_at, table_count};
 ghost use Rattle.tbl_model.specs.Dumps.{written_header, dump_file, record_of, registry_file, is_filled};
 ghost use Rattle.cfe_headers.specs.FileHeaders.{header_of};
-ghost use Rattle.dump_requests.specs.Images.{filled_name, filled_file, filled_file_len, record_len};
+ghost use Rattle.dump_requests.specs.Images.{AppendsFile, AppendsFilled, filled_file_len, record_len};
 
 use cfe_headers::{FileHeader, HEADER_LENGTH, write_file_header};
 use request_effects::Clock;
@@ -64,9 +64,7 @@ fn header(subtype: u32, description: [u8; 32], clock: Clock) -> FileHeader
 pub(crate) fn write_image(out: &mut Bytes, name: &Name40, image: &[u8], clock: Clock)
     requires room { image_place + length image.now ≤ out.old.spare }
     requires within { length image.now ≤ table_limit }
-    ensures bytes { (s : State) → s.seconds ≡ clock.seconds → s.sub ≡ clock.sub → out.new.list ≡ out.old.list ++ dump_file s name.now image.now }
-    ensures room { out.old.spare ≤ out.new.spare + (image_place + length image.now) }
-    ensures len { length out.new.list ≡ length out.old.list + (image_place + length image.now) }
+    ensures { AppendsFile out.old out.new clock (λ s. dump_file s name.now image.now) (image_place + length image.now) }
 {
     let header = header(TABLE_SUBTYPE, IMAGE_TEXT, clock);
     write_image_file(out, &header, 0, name, image);
@@ -92,11 +90,7 @@ pub(crate) fn write_filled(
     clock: Clock,
 ) -> Option<Name64>
     requires { IfSome (filled_file_len (table_at tables.now row)) (λ len. len ≤ out.old.spare) }
-    ensures name { result ≡ filled_name (table_at tables.now row) }
-    ensures filled { is_some result ≡ is_filled (table_at tables.now row) }
-    ensures bytes { (s : State) → s.seconds ≡ clock.seconds → s.sub ≡ clock.sub → out.new.list ≡ out.old.list ++ filled_file s (table_at tables.now row) }
-    ensures len { IfSome (filled_file_len (table_at tables.now row)) (λ len. length out.new.list ≡ length out.old.list + len) }
-    ensures none { IfNone result (out.new ≡ out.old) }
+    ensures { AppendsFilled out.old out.new clock (table_at tables.now row) result }
 {
     let image = tables.filled(row)?;
     let (Some(name), Some(file)) = (tables.name(row), tables.dump_name(row)) else {

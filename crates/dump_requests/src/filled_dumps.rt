@@ -1,14 +1,13 @@
 //! Housekeeping: dumps that came to their end are written, and the state is reported.
 
-ghost use Rattle.std.specs.Prelude.{◌≡◌, ◌≤◌, ◌+◌, ◌*◌, ◌∷◌, length, OnOk, OnErr};
+ghost use Rattle.std.specs.Prelude.{◌≡◌, ◌≤◌, ◌+◌, ◌∷◌, Some, length};
 ghost use Rattle.std.specs.List.{fold};
-ghost use Rattle.tbl_model.specs.State.{State};
 ghost use Rattle.tbl_model.specs.Dumps.{housekeeping_effect};
 ghost use Rattle.request_effects.specs.Reports.{most_events};
 ghost use Rattle.desk.specs.Desk.{IsEmpty, output};
 ghost use Rattle.desk.specs.Requests.{Served, command};
 ghost use Rattle.desk.specs.Rows.{rows_in};
-ghost use Rattle.dump_requests.specs.Housekeeping.{written, then_write, then_finish, filled_count};
+ghost use Rattle.dump_requests.specs.Housekeeping.{Filed, filing, then_finish, filled_count};
 
 use crate::files::{filled_len, write_filled};
 use desk::{Desk, EVENT_LENGTH};
@@ -33,13 +32,7 @@ fn write_row<C: Validator>(
     further: &[Option<u8>],
 ) -> Result<(), Memory>
     requires room { length report.old.events + 1 + length further.now ≤ most_events }
-    ensures effect { OnOk result ((s : State) → s.tables ≡ desk.old.tables → s.seconds ≡ desk.old.clock.seconds → s.sub ≡ desk.old.clock.sub
-        → fold (then_write s) (written desk.old.drawer out.old.list report.old.events) (row ∷ rows_in further.now) ≡ written desk.new.drawer out.new.list report.new.events) }
-    ensures events { OnOk result (length report.new.events ≤ length report.old.events + filled_count desk.old.tables (row ∷ rows_in further.now)) }
-    ensures bytes { OnOk result (length out.new.list ≤ length out.old.list + 16500 * (1 + length further.now)) }
-    ensures alone { OnOk result (report.new ≡ record report.old { events = report.new.events }) }
-    ensures drawer { OnOk result (desk.new ≡ record desk.old { drawer = desk.new.drawer }) }
-    ensures err { OnErr result (desk.new ≡ desk.old) }
+    ensures { Filed (Some row ∷ further.now) (filing desk.old out.old.list report.old) (filing desk.new out.new.list report.new) result }
 {
     let Some(len) = filled_len(&desk.tables, row) else {
         return write_all(desk, out, report, further);
@@ -82,13 +75,7 @@ fn write_all<C: Validator>(
     places: &[Option<u8>],
 ) -> Result<(), Memory>
     requires room { length report.old.events + length places.now ≤ most_events }
-    ensures effect { OnOk result ((s : State) → s.tables ≡ desk.old.tables → s.seconds ≡ desk.old.clock.seconds → s.sub ≡ desk.old.clock.sub
-        → fold (then_write s) (written desk.old.drawer out.old.list report.old.events) (rows_in places.now) ≡ written desk.new.drawer out.new.list report.new.events) }
-    ensures events { OnOk result (length report.new.events ≤ length report.old.events + filled_count desk.old.tables (rows_in places.now)) }
-    ensures bytes { OnOk result (length out.new.list ≤ length out.old.list + 16500 * length places.now) }
-    ensures alone { OnOk result (report.new ≡ record report.old { events = report.new.events }) }
-    ensures drawer { OnOk result (desk.new ≡ record desk.old { drawer = desk.new.drawer }) }
-    ensures err { OnErr result (desk.new ≡ desk.old) }
+    ensures { Filed places.now (filing desk.old out.old.list report.old) (filing desk.new out.new.list report.new) result }
 {
     let Some((place, further)) = places.split_first() else {
         return Ok(());
