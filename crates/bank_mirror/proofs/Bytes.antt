@@ -1,8 +1,8 @@
 -- What a write to one of two banks leaves of the pair.
-use Rattle.std.proofs.Common.{◌≡◌, ◌⊎◌, inl, inr, ℕ, ◌+◌, ◌-◌, ◌≤◌, ◌==◌, List, ◌++◌, length, take, drop, Bool, true, false, refl, sym, ◌∙◌, ap, subst, arith, length-append}
-use Rattle.std.proofs.Math.Seq.{take-append-add, take-add}
-use Rattle.std.proofs.lemmas.List.{length-take, take-take, take_at, drop-take}
-use Rattle.tbl_kinds.specs.Numbers.{piece, patched}
+use Rattle.std.proofs.Common.{◌≡◌, ◌⊎◌, inl, inr, ℕ, ◌+◌, ◌-◌, ◌<◌, ◌≤◌, ◌==◌, List, [], ◌∷◌, ◌++◌, get_or, length, take, drop, Bool, true, false, refl, sym, ◌∙◌, ap, subst, arith, length-append}
+use Rattle.std.proofs.Math.Seq.{take-append-add, take-add, get_or-append_seam}
+use Rattle.std.proofs.lemmas.List.{length-take, take-take, take_at, drop-take, get_or_append_left}
+use Rattle.tbl_kinds.specs.Numbers.{byte_at, piece, patched}
 use Rattle.tbl_outside.specs.Bank.{Torn}
 use Rattle.tbl_outside.proofs.Pieces.{length-piece, torn_same, byte_behind}
 use Rattle.bank_mirror.specs.Pairs.{stale, is_stale, pair_of}
@@ -42,6 +42,14 @@ front-patched size at bytes others fits within =
     ∙ take-append-add (take at bytes ++ others) (drop stop bytes) (size - stop)
     ∙ ap (λ (l : List ℕ). (take at bytes ++ others) ++ l) (sym (drop-take stop (size - stop) bytes) ∙ ap (λ n. drop stop (take n bytes)) there)
     ∙ ap (λ (l : List ℕ). (l ++ others) ++ drop stop (take size bytes)) (sym (take-take at size bytes (omega arith)))
+
+-- a byte that was written is read
+pub byte_written : (bytes : List ℕ) (at x : ℕ) → at < length bytes → byte_at at (patched bytes at (x ∷ [])) ≡ x
+byte_written bytes at x within =
+    let size : length (take at bytes) ≡ at = simp length-take (omega (arith, within)) in
+    get_or_append_left (take at bytes ++ x ∷ []) (drop (at + 1) bytes) 0 at (omega (arith, length-append (take at bytes) (x ∷ []), size))
+    ∙ ap (λ n. get_or (take at bytes ++ x ∷ []) n 0) (sym size)
+    ∙ get_or-append_seam (take at bytes) x [] 0
 
 -- ---- what an image of one bank beside the other is together
 

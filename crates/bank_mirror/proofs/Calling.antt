@@ -1,18 +1,17 @@
 -- Calls that change no byte of two banks, and how what calls leave of both goes on over two in a row.
-use Rattle.std.proofs.Common.{◌≡◌, ⊎_elim, length, take, List, ℕ, sym, ◌∙◌, ap, subst}
+use Rattle.std.proofs.Common.{◌≡◌, ⊎_elim, true, length, take, List, ℕ, refl, sym, ◌∙◌, ap, subst}
 use Rattle.std.specs.Prelude.{Result, Ok, Err}
 use Rattle.tbl_outside.specs.declared.bank.Bank.{Ghosts}
 use Rattle.tbl_outside.proofs.Moments.{goes_on, leaves_among}
 use Rattle.bank_mirror.specs.declared.in_use.InUse.{InUse}
 use Rattle.bank_mirror.specs.declared.in_use.InUse.TheVariants.{Both, FirstOut, SecondOut, Unread}
-use Rattle.bank_mirror.specs.Pairs.{Pair, BothTell, BothTellMoments, is_stale, is_marked, front_of, bytes_of}
+use Rattle.bank_mirror.specs.Pairs.{Pair, BothTell, BothTellMoments, is_stale, is_marked, front_of, bytes_of, pair_of}
 use Rattle.bank_mirror.specs.Counts.{BothStill}
 use Rattle.bank_mirror.specs.Calls.{CallsFirst, CallsSecond}
 use Rattle.bank_mirror.specs.BanksInUse.{IsHeld}
 use Rattle.bank_mirror.specs.Kept.{HoldsOnly, Keeps, MovesMark, Looks}
-use Rattle.bank_mirror.proofs.Bytes.{pair-either}
+use Rattle.bank_mirror.proofs.Bytes.{pair-stale, pair-either, of_first-same, of_second-same}
 use Rattle.bank_mirror.proofs.Excuses.{goes_twice, fails_since, still_twice}
-use Rattle.bank_mirror.proofs.Joined.{first_read, second_read, bytes_same}
 
 module _ {A B : Type 0} (a : Ghosts A) (b : Ghosts B) where
   -- ---- calls that change no byte
@@ -20,19 +19,19 @@ module _ {A B : Type 0} (a : Ghosts A) (b : Ghosts B) where
   pub first_keeps : (old new : Pair A B) → (a.tells → a.now new.first ≡ a.now old.first) → CallsFirst a b old new (λ x. x ≡ a.now old.first) → Keeps a b old new
   first_keeps old new kept calls = record {
     kept = λ told. (kept told.0, ap b.now calls.other);
-    moments = λ told. first_read a b old new (calls.moments told);
+    moments = λ told. leaves_among (calls.moments told) (of_first-same (a.now old.first) (b.now old.second));
     goes_on = calls.goes_on;
   }
 
   pub second_keeps : (old new : Pair A B) → (b.tells → b.now new.second ≡ b.now old.second) → CallsSecond a b old new (λ y. y ≡ b.now old.second) → Keeps a b old new
   second_keeps old new kept calls = record {
     kept = λ told. (ap a.now calls.other, kept told.1);
-    moments = λ told. second_read a b old new (calls.moments told);
+    moments = λ told. leaves_among (calls.moments told) (of_second-same (a.now old.first) (b.now old.second));
     goes_on = calls.goes_on;
   }
 
   pub same_bytes : (old new : Pair A B) → Keeps a b old new → BothTell a b → bytes_of a b new ≡ bytes_of a b old
-  same_bytes old new keeps told = bytes_same a b old new (keeps.kept told).0 (keeps.kept told).1
+  same_bytes old new keeps told = λ i. pair_of ((keeps.kept told).0 i) ((keeps.kept told).1 i)
 
   pub same_mark : (old new : Pair A B) → Keeps a b old new → BothTell a b → is_marked a b new ≡ is_marked a b old
   same_mark old new keeps told = λ i. is_stale (length ((keeps.kept told).0 i)) ((keeps.kept told).1 i)
@@ -97,11 +96,18 @@ module _ {A B : Type 0} (a : Ghosts A) (b : Ghosts B) where
     goes_on = goes_twice a b old mid new one.goes_on two.goes_on;
   }
 
-  -- the mark is written where both hold the same
-  pub mark_holds : (BothTellMoments a b → BothTell a b) → (old new : Pair A B) → (BothTell a b → front_of a b old ≡ a.now old.first)
-      → MovesMark a b old new → HoldsOnly a b old new (λ image. image ≡ a.now old.first)
-  mark_holds both old new same moves = record {
-    bytes = λ told. ⊎_elim (λ is. is ∙ ap a.now moves.other) (λ is. is ∙ moves.front told ∙ same told) (pair-either (a.now new.first) (b.now new.second));
-    moments = λ told. leaves_among (moves.moments told) (λ image. ⊎_elim (λ is. is) (λ is. is ∙ same (both told)));
+  -- no byte changes after such a call
+  pub holds_kept : (BothTellMoments a b → BothTell a b) → (old mid new : Pair A B) (IsSuch : List ℕ → Type 0) → HoldsOnly a b old mid IsSuch → Keeps a b mid new → HoldsOnly a b old new IsSuch
+  holds_kept both old mid new IsSuch one keeps = holds_twice both old mid new IsSuch (λ image. image ≡ bytes_of a b mid) one (keeps_holds mid new (λ image. image ≡ bytes_of a b mid) refl keeps)
+      (λ told image is. subst IsSuch (sym is) (one.bytes told))
+
+  -- the mark is taken away where both hold the same
+  pub mark_holds : (BothTellMoments a b → BothTell a b) → (old new : Pair A B) → (BothTell a b → is_marked a b old ≡ true) → (BothTell a b → front_of a b old ≡ a.now old.first)
+      → MovesMark a b old new → HoldsOnly a b old new (λ image. image ≡ bytes_of a b old)
+  mark_holds both old new marked same moves = record {
+    bytes = λ told. ⊎_elim (λ is. is ∙ ap a.now moves.other ∙ sym (same told) ∙ sym (front_is told)) (λ is. is ∙ moves.front told ∙ sym (front_is told)) (pair-either (a.now new.first) (b.now new.second));
+    moments = λ told. leaves_among (moves.moments told) (λ image. ⊎_elim (λ is. is ∙ sym (same (both told)) ∙ sym (front_is (both told))) (λ is. is ∙ sym (front_is (both told))));
     goes_on = moves.goes_on;
-  }
+  } where
+    front_is : BothTell a b → bytes_of a b old ≡ front_of a b old
+    front_is told = pair-stale (a.now old.first) (b.now old.second) (marked told)

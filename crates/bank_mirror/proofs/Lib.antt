@@ -1,7 +1,6 @@
 pub mod Moments
 pub mod Bytes
 pub mod Excuses
-pub mod Joined
 pub mod Calling
 pub mod GoodOne
 pub mod Writing

@@ -5,13 +5,15 @@ use Rattle.tbl_outside.specs.declared.bank.Bank.{Ghosts}
 use Rattle.bank_mirror.specs.declared.mirror.OpenBack.{OpenBack}
 use Rattle.bank_mirror.specs.declared.opening.OpenFault.{OpenFault}
 use Rattle.bank_mirror.specs.declared.opening.Opened.{Opened}
-use Rattle.bank_mirror.specs.Pairs.{Pair, BothTell, bytes_of, pair_of}
+use Rattle.bank_mirror.specs.declared.in_use.Alone.{Alone}
+use Rattle.bank_mirror.specs.Pairs.{Pair, BothTell, AsWas, bytes_of, bytes_alone, pair_of}
 use Rattle.bank_mirror.specs.Moments.{LeftSince, moment}
 use Rattle.bank_mirror.specs.Counts.{GoesOn, IsSince, opening_of}
 use Rattle.bank_mirror.specs.BanksInUse.{IsHeld, IsExcused}
 use Rattle.bank_mirror.specs.Kept.{HoldsOnly}
+use Rattle.bank_mirror.specs.Openings.{TakesOne}
 use Rattle.bank_mirror.specs.Mirrors.{Mirrored, IsMirror}
-use Rattle.bank_mirror.specs.Begun.{LeavesSince, Begins, HandsBack, Ends, EndsAsOne, IsMade, unused, returned}
+use Rattle.bank_mirror.specs.Begun.{LeavesSince, Begins, HandsBack, Ends, EndsAsOne, EndsAsOf, IsMade, unused, returned}
 
 all_ok : {T E P : Type 0} (r : Result T E) → P → IfOk r (λ _. P)
 all_ok (Ok x) fact = fact
@@ -68,7 +70,7 @@ module _ {A B : Type 0} (a : Ghosts A) (b : Ghosts B) where
       pub made_err : (P : A × B → Pair A B → OpenFault → Type 0) → IfErr opened (P (was.first, was.second) new) → IfErr result (λ back. P (first, second) (returned back) back.cause)
       made_err P fact = as_back (P (first, second)) (subst (λ (pair : Pair A B). IfErr opened (P (pair.first, pair.second) new)) is fact)
 
-      pub made_ends : (these : A × B → List ℕ) (IsSuch : A × B → List ℕ → Type 0) → HoldsOnly a b was new (IsSuch (was.first, was.second)) → IfOk opened (λ o. BothTell a b → bytes_of a b new ≡ these (was.first, was.second))
+      made_ends : (these : A × B → List ℕ) (IsSuch : A × B → List ℕ → Type 0) → HoldsOnly a b was new (IsSuch (was.first, was.second)) → IfOk opened (λ o. BothTell a b → bytes_of a b new ≡ these (was.first, was.second))
           → Ends a b (first, second) (these (first, second)) (IsSuch (first, second)) result
       made_ends these IsSuch holds bytes = record {
         begins = made_ok (λ opening. Begins a b (first, second) (these opening)) (begins opened bytes);
@@ -86,3 +88,7 @@ module _ {A B : Type 0} (a : Ghosts A) (b : Ghosts B) where
       -- where both read as they did
       pub made_as_one : HoldsOnly a b was new (λ image. image ≡ bytes_of a b was) → EndsAsOne a b first second result
       made_as_one holds = made_ends (λ opening. pair_of (a.now opening.0) (b.now opening.1)) (λ opening image. image ≡ pair_of (a.now opening.0) (b.now opening.1)) holds (all_ok opened holds.bytes)
+
+      -- or as the good one of them did
+      pub made_as_of : (good : Alone) → TakesOne a b good was new opened → EndsAsOf a b good first second result
+      made_as_of good takes = made_ends (λ opening. bytes_alone good (a.now opening.0) (b.now opening.1)) (λ opening. AsWas a b opening.0 opening.1 (bytes_alone good (a.now opening.0) (b.now opening.1))) takes.holds takes.bytes

@@ -3,17 +3,20 @@ use Rattle.std.proofs.Common.{◌≡◌, inl, inr, ⊎_elim, ◌+◌, ◌≤◌,
 use Rattle.tbl_kinds.specs.Numbers.{patched}
 use Rattle.tbl_outside.specs.declared.bank.Bank.{Ghosts}
 use Rattle.tbl_outside.specs.declared.bank.Written.{Written}
-use Rattle.tbl_outside.specs.declared.bank.Written.TheVariants.{Done}
+use Rattle.tbl_outside.specs.declared.bank.Written.TheVariants.{Done, Failed, Stopped}
 use Rattle.tbl_outside.specs.Bank.{Torn}
 use Rattle.tbl_outside.specs.Counts.{Counted}
 use Rattle.tbl_outside.proofs.Moments.{leaves_among}
 use Rattle.bank_mirror.specs.Pairs.{Pair, BothTell, BothTellMoments, is_stale, is_marked, front_of, bytes_of, pair_of}
-use Rattle.bank_mirror.specs.Counts.{SameStops}
-use Rattle.bank_mirror.specs.Calls.{WritesBank, CallsFirst, CallsSecond}
-use Rattle.bank_mirror.specs.Kept.{HoldsOnly, Keeps, MovesMark, Writes}
+use Rattle.bank_mirror.specs.Counts.{SameStops, GoesOn, WriteCounted}
+use Rattle.bank_mirror.specs.Calls.{WritesBank, CallsFirst, CallsSecond, WritesFirst, WritesSecond}
+use Rattle.bank_mirror.specs.Kept.{HoldsOnly, Keeps, MovesMark, Writes, LeavesInUse}
 use Rattle.bank_mirror.proofs.Bytes.{pair-fresh, pair-stale, pair-either, mark_kept, front-patched, of_first-fresh, of_first-stale, of_second-fresh, of_second-stale, torn_either}
 use Rattle.bank_mirror.proofs.Calling.{keeps_holds, holds_as, holds_twice}
-use Rattle.bank_mirror.proofs.Excuses.{first_counted, second_counted, counted_after, counted_before}
+use Rattle.bank_mirror.proofs.Excuses.{first_counted, second_counted, counted_after, counted_before, since_on, first_fails, second_fails, first_failed_on, one_stops}
+use Rattle.bank_mirror.specs.declared.in_use.InUse.TheVariants.{Both, SecondOut}
+use Rattle.bank_mirror.specs.declared.writes.Ended.{Ended}
+use Rattle.bank_mirror.specs.CallsInUse.{CanReach, WritesInUse, WritesMarked, ended_by}
 
 module _ {A B : Type 0} (a : Ghosts A) (b : Ghosts B) (both : BothTellMoments a b → BothTell a b) where
   -- what was there is known by another name
@@ -151,3 +154,108 @@ module _ {A B : Type 0} (a : Ghosts A) (b : Ghosts B) (both : BothTellMoments a 
             (keeps_holds a b mid new (λ image. image ≡ bytes_of a b mid) refl keeps) (λ told image is. subst (Torn at (length bytes) (front_of a b old)) (sym is) (before.bytes told));
         counted = counted_before a b old mid new written moves.goes_on keeps.goes_on stops (second_counted a b old mid written moves.other counted);
       }
+
+-- ---- A write to both banks: to the first, and then to the second as the first's ended.
+
+module _ {A B : Type 0} (a : Ghosts A) (b : Ghosts B) (both : BothTellMoments a b → BothTell a b) (old mid : Pair A B) (at : ℕ) (bytes : List ℕ) (reach : CanReach a b Both old at bytes) where
+  fresh : BothTell a b → is_marked a b old ≡ false
+  fresh told = (reach.held told).0
+
+  same : BothTell a b → a.now old.first ≡ bytes_of a b old
+  same told = sym (pair-fresh (a.now old.first) (b.now old.second) (fresh told))
+
+  before : (written : Written) → WritesFirst a b old mid at bytes written → HoldsOnly a b old mid (Torn at (length bytes) (a.now old.first))
+  before written one = first_torn a b both old mid at (length bytes) fresh one.writes.torn one.calls
+
+  front_is : (written : Written) → WritesFirst a b old mid at bytes written → BothTell a b → front_of a b mid ≡ a.now old.first
+  front_is written one told = ap (λ bank. take (length (a.now mid.first)) (b.now bank)) one.calls.other ∙ ap (λ n. take n (b.now old.second)) (one.writes.torn told.0).same_length ∙ (reach.held told).1
+
+  held_still : (written : Written) → WritesFirst a b old mid at bytes written → BothTell a b → is_marked a b mid ≡ false
+  held_still written one = first_held a b both old mid at (length bytes) fresh one.writes.torn one.calls.other
+
+  -- the second was written too: what it took changes nothing of what both hold as one
+  pub first_done : ((bank : A) → a.tells → length (a.now bank) ≡ a.size bank) → ((bank : B) → b.tells → length (b.now bank) ≡ b.size bank) → WritesFirst a b old mid at bytes Done
+      → (new : Pair A B) (second : Written) → WritesSecond a b mid new at bytes second → WritesInUse a b Both old new at bytes (ended_by second)
+  first_done whole whole_too one new second two = record {
+    writes = writes_as a b both old new at bytes (a.now old.first) (bytes_of a b old) (ended_by second).written same (record {
+      done = λ is told. too.bytes told ∙ one.writes.done refl told.0;
+      holds = holds_twice a b both old mid new (Torn at (length bytes) (a.now old.first)) (λ image. image ≡ a.now mid.first) (before Done one) too
+          (λ told image is. subst (Torn at (length bytes) (a.now old.first)) (sym is) (one.writes.torn told.0));
+      counted = counted_after a b old mid new (ended_by second).written one.calls.goes_on one.writes.counted.1 (ap b.stops one.calls.other) (counted second two);
+    });
+    in_use = in_use second two;
+    once = λ _ told. ap a.calls two.calls.other ∙ one.once (subst a.tells_calls two.calls.other told);
+  } where
+    room : at + length bytes ≤ a.size mid.first
+    room = omega (arith, reach.room, one.calls.goes_on.first_size)
+
+    too : HoldsOnly a b mid new (λ image. image ≡ a.now mid.first)
+    too = second_hidden a b both whole mid new at (length bytes) room (held_still Done one) two.writes.torn two.calls
+
+    counted : (second : Written) → WritesSecond a b mid new at bytes second → WriteCounted a b (mid.first, mid.second) new (ended_by second).written
+    counted Done two = (ap a.stops two.calls.other, two.writes.counted.1)
+    counted Failed two = (ap a.stops two.calls.other, two.writes.counted.1)
+    counted Stopped two = inr two.writes.counted.0
+
+    mark : BothTell a b → is_marked a b new ≡ false
+    mark told = mark_stays a b both whole mid new at (length bytes) room two.writes.torn two.calls.other told ∙ held_still Done one told
+
+    front : b.tells → WritesSecond a b mid new at bytes Done → BothTell a b → front_of a b new ≡ a.now new.first
+    front tells two told =
+        let larger : length (a.now mid.first) ≤ length (b.now mid.second) = omega (arith, whole mid.first told.0, whole_too mid.second told.1, two.larger) in
+        front_written a b both whole mid new at bytes room larger two.calls.other told (two.writes.done refl tells)
+        ∙ ap (λ (l : List ℕ). patched l at bytes) (front_is Done one told) ∙ sym (one.writes.done refl told.0) ∙ sym (ap a.now two.calls.other)
+
+    in_use : (second : Written) → WritesSecond a b mid new at bytes second → LeavesInUse a b Both old new ((ended_by second).written ≡ Failed) (ended_by second).in_use
+    in_use Done two = record { held = λ told. (mark told, front told.1 two told); excuse = λ mark_failed opening since excused. tt; out = tt; last = λ is. absurd (cc is); fault = λ is. absurd (cc is); cause = λ is. absurd (cc is) }
+    in_use Failed two = record {
+      held = mark;
+      excuse = λ mark_failed opening since excused. inl (second_fails a b opening mid new (since_on a b opening old mid since one.calls.goes_on) two.writes.counted.0);
+      out = tt;
+      last = λ is. absurd (cc is);
+      fault = λ is. absurd (cc is);
+      cause = λ is. absurd (cc is);
+    }
+    in_use Stopped two = record {
+      held = mark;
+      excuse = λ mark_failed opening since excused. inr (inl (one_stops a b opening mid new (since_on a b opening old mid since one.calls.goes_on) (inr two.writes.counted.0)));
+      out = tt;
+      last = λ is. absurd (cc is);
+      fault = λ is. absurd (cc is);
+      cause = λ is. absurd (cc is);
+    }
+
+  -- the first failed, and the mark and the second were written after it
+  pub first_failed : WritesFirst a b old mid at bytes Failed → (new : Pair A B) (ended : Ended) → WritesMarked a b mid new at bytes ended → WritesInUse a b Both old new at bytes ended
+  first_failed one new ended marked = record {
+    writes = writes_after a b both old mid new at bytes (front_of a b mid) (bytes_of a b old) ended.written
+        (torn_as a b both old mid at (length bytes) (a.now old.first) (bytes_of a b old) same (before Failed one))
+        (one.writes.counted.1, ap b.stops one.calls.other) (λ told. front_is Failed one told ∙ same told) marked.writes;
+    in_use = record {
+      held = marked.held;
+      excuse = λ mark_failed opening since excused. marked.excuse mark_failed opening (since_on a b opening old mid since goes) (first_fails a b opening old mid since one.writes.counted.0);
+      out = tt;
+      last = marked.last;
+      fault = λ is. inr (second_fails a b (old.first, old.second) mid new goes.counts (marked.failed is));
+      cause = λ is mark_failed opening since excused.
+          let later = since_on a b opening old mid since goes in
+          inl (first_failed_on a b opening mid new later marked.writes.holds.goes_on (first_fails a b opening old mid since one.writes.counted.0), second_fails a b opening mid new later (marked.failed is));
+    };
+    once = λ _ told. ap a.calls marked.other ∙ one.once (subst a.tells_calls marked.other told);
+  } where
+    goes : GoesOn a b old mid
+    goes = one.calls.goes_on
+
+  pub first_stopped : WritesFirst a b old mid at bytes Stopped → WritesInUse a b Both old mid at bytes (record { written = Stopped; in_use = SecondOut })
+  first_stopped one = record {
+    writes = writes_as a b both old mid at bytes (a.now old.first) (bytes_of a b old) Stopped same (first_writes a b both old mid at bytes Stopped fresh one.writes one.calls);
+    in_use = record {
+      held = held_still Stopped one;
+      excuse = λ mark_failed opening since excused. inr (inl (one_stops a b opening old mid since (inl one.writes.counted.0)));
+      out = tt;
+      last = λ is. absurd (cc is);
+      fault = λ is. absurd (cc is);
+      cause = λ is. absurd (cc is);
+    };
+    once = λ _. one.once;
+  }

@@ -6,7 +6,7 @@ use Rattle.bank_mirror.specs.declared.in_use.InUse.TheVariants.{Both, FirstOut, 
 use Rattle.bank_mirror.specs.declared.in_use.Alone.{Alone}
 use Rattle.bank_mirror.specs.declared.in_use.Alone.TheVariants.{First, Second}
 use Rattle.bank_mirror.specs.Pairs.{Pair, BothTell, is_stale}
-use Rattle.bank_mirror.specs.Counts.{IsSince, FirstFailed, SecondFailed, BothFailed, GoodFailed, OneStopped, MayFail}
+use Rattle.bank_mirror.specs.Counts.{IsSince, FirstFailed, SecondFailed, BothFailed, OneStopped, MayFail}
 
 -- what both hold: where both are in they hold the same, and the mark says which one is out
 abbrev pub HoldsAs : InUse → List ℕ → List ℕ → Type 0
@@ -64,9 +64,3 @@ module _ {A B : Type 0} (a : Ghosts A) (b : Ghosts B) where
   abbrev pub HasCause : InUse → Pair A B → Pair A B → Type 0
   HasCause in_use old new = (mark_failed : Bool) (opening : A × B) → IsSince a b opening old
       → IsExcused mark_failed opening old in_use → MayFail a b mark_failed opening new
-
-  -- one goes on alone in a call, and a call that failed did so by that one
-  pub record GoesAlone (good : Alone) (old new : Pair A B) (Failed : Type 0) : Type 0 where
-    pub held : IsHeld (in_use_alone good) new
-    pub other : LeavesOther good old new
-    pub fault : Failed → GoodFailed a b good (old.first, old.second) new

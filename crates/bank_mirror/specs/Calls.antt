@@ -1,14 +1,17 @@
 -- One call of one of two banks: what it did to that one, and what a reset meanwhile leaves of both.
-use Rattle.std.specs.Prelude.{◌≡◌, ℕ, List, length, OnOk, OnErr, Result}
+use Rattle.std.specs.Prelude.{◌≡◌, ℕ, ◌<◌, ◌∷◌, List, length, OnOk, OnErr, Result}
 use Rattle.tbl_kinds.specs.Numbers.{piece, patched}
 use Rattle.tbl_outside.specs.declared.bank.Bank.{Ghosts}
 use Rattle.tbl_outside.specs.declared.bank.Written.{Written}
 use Rattle.tbl_outside.specs.declared.bank.Written.TheVariants.{Done}
 use Rattle.tbl_outside.specs.Bank.{Torn}
+use Rattle.tbl_outside.specs.BankCalls.{write}
 use Rattle.tbl_outside.specs.Counts.{Still, RoseAlone, Counted}
 use Rattle.bank_mirror.specs.Pairs.{Pair, BothTellMoments}
 use Rattle.bank_mirror.specs.Moments.{OfFirst, OfSecond, Leaves}
 use Rattle.bank_mirror.specs.Counts.{GoesOn}
+use Rattle.bank_mirror.specs.LastCalls.{LastReadFailed}
+use Rattle.bank_mirror.specs.Kept.{Keeps}
 
 module _ {X : Type 0} (g : Ghosts X) where
   -- a bank was read: its bytes stay, and a fault is all that is counted
@@ -36,3 +39,29 @@ module _ {A B : Type 0} (a : Ghosts A) (b : Ghosts B) where
     pub other : new.first ≡ old.first
     pub moments : BothTellMoments a b → Leaves a b old new (OfSecond (a.now old.first) IsSecond)
     pub goes_on : GoesOn a b old new
+
+  -- a read of the first alone, which was the last call of all if it failed
+  pub record ReadsFirst {T E : Type 0} (old new : Pair A B) (at : ℕ) (into filled : List ℕ) (result : Result T E) : Type 0 where
+    pub reads : ReadsBank a old.first new.first at into filled result
+    pub other : new.second ≡ old.second
+    pub keeps : Keeps a b old new
+    pub last : OnErr result (LastReadFailed a b new)
+
+  -- and of the second alone, which is the larger one
+  pub record ReadsSecond {T E : Type 0} (old new : Pair A B) (at : ℕ) (into filled : List ℕ) (result : Result T E) : Type 0 where
+    pub larger : a.size old.first < b.size old.second
+    pub reads : ReadsBank b old.second new.second at into filled result
+    pub other : new.first ≡ old.first
+    pub keeps : Keeps a b old new
+    pub last : OnErr result (LastReadFailed a b new)
+
+  -- one write to the first alone, and to the second alone
+  pub record WritesFirst (old new : Pair A B) (at : ℕ) (bytes : List ℕ) (written : Written) : Type 0 where
+    pub writes : WritesBank a old.first new.first at bytes written
+    pub calls : CallsFirst old new (Torn at (length bytes) (a.now old.first))
+    pub once : a.tells_calls new.first → a.calls new.first ≡ write at bytes ∷ a.calls old.first
+
+  pub record WritesSecond (old new : Pair A B) (at : ℕ) (bytes : List ℕ) (written : Written) : Type 0 where
+    pub larger : a.size old.first < b.size old.second
+    pub writes : WritesBank b old.second new.second at bytes written
+    pub calls : CallsSecond old new (Torn at (length bytes) (b.now old.second))

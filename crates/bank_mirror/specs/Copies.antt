@@ -1,7 +1,8 @@
 -- The copy of the good one of two banks over the other, which an opening makes.
-use Rattle.std.specs.Prelude.{◌≡◌, ℕ, take, OnErr, IfOk, Result}
+use Rattle.std.specs.Prelude.{◌≡◌, ℕ, take, Ok, OnErr, IfOk, Result}
 use Rattle.tbl_outside.specs.declared.bank.Bank.{Ghosts}
 use Rattle.tbl_outside.specs.declared.bank.Written.{Written}
+use Rattle.tbl_outside.specs.declared.bank.Written.TheVariants.{Done}
 use Rattle.bank_mirror.specs.declared.in_use.Alone.{Alone}
 use Rattle.bank_mirror.specs.declared.in_use.Alone.TheVariants.{First, Second}
 use Rattle.bank_mirror.specs.Pairs.{Pair, BothTell, shown_by}
@@ -31,3 +32,9 @@ module _ {A B : Type 0} (a : Ghosts A) (b : Ghosts B) where
     pub broke : IfOk result (CopyBroke a b good (old.first, old.second) new)
     pub unread : OnErr result (GoodFailed a b good (old.first, old.second) new)
     pub last : OnErr result (LastReadFailed a b new)
+
+  -- all of it, up to a place: both hold the same if it is done
+  pub record CopiesTo {E : Type 0} (good : Alone) (at : ℕ) (old new : Pair A B) (result : Result Written E) : Type 0 where
+    pub done : result ≡ Ok Done → SameUpTo at new
+    pub copies : Copies good old new
+    pub ends : EndsCopy good old new result

@@ -1,17 +1,19 @@
 -- What a call leaves of what two banks hold as one.
-use Rattle.std.specs.Prelude.{◌≡◌, ◌⊎◌, ℕ, List, length, OnOk, OnErr, Result}
-use Rattle.tbl_kinds.specs.Numbers.{piece, patched}
+use Rattle.std.specs.Prelude.{◌≡◌, ◌⊎◌, ℕ, Bool, List, length, OnOk, OnErr, IfOk, Result}
+use Rattle.tbl_kinds.specs.Numbers.{byte_at, piece, patched}
 use Rattle.tbl_outside.specs.declared.bank.Bank.{Ghosts}
 use Rattle.tbl_outside.specs.declared.bank.Written.{Written}
 use Rattle.tbl_outside.specs.declared.bank.Written.TheVariants.{Done}
 use Rattle.tbl_outside.specs.Bank.{Torn}
+use Rattle.tbl_outside.specs.Counts.{Counted}
+use Rattle.bank_mirror.specs.declared.in_use.Alone.{Alone}
 use Rattle.bank_mirror.specs.declared.in_use.InUse.{InUse}
 use Rattle.bank_mirror.specs.declared.in_use.InUse.TheVariants.{Unread}
 use Rattle.bank_mirror.specs.Pairs.{Pair, BothTell, BothTellMoments, SameBytes, bytes_of, front_of}
 use Rattle.bank_mirror.specs.Moments.{Leaves}
 use Rattle.bank_mirror.specs.Counts.{GoesOn, BothStill, OneFailed, SameStops, WriteCounted, SecondFailed}
 use Rattle.bank_mirror.specs.LastCalls.{LastReadFailed}
-use Rattle.bank_mirror.specs.BanksInUse.{IsHeld, KeepsExcuse, LeavesOut, HasCause}
+use Rattle.bank_mirror.specs.BanksInUse.{IsHeld, KeepsExcuse, LeavesOut, HasCause, in_use_alone}
 
 module _ {A B : Type 0} (a : Ghosts A) (b : Ghosts B) where
   -- they hold such bytes as one afterwards, and a reset meanwhile leaves nothing else
@@ -33,6 +35,12 @@ module _ {A B : Type 0} (a : Ghosts A) (b : Ghosts B) where
     pub moments : BothTellMoments a b → Leaves a b old new (λ image. (image ≡ a.now old.first) ⊎ (image ≡ front_of a b old))
     pub goes_on : GoesOn a b old new
 
+  -- it was written as this byte, or the write broke off
+  pub record WritesMark (old new : Pair A B) (mark : ℕ) (written : Written) : Type 0 where
+    pub done : written ≡ Done → BothTell a b → byte_at (length (a.now new.first)) (b.now new.second) ≡ mark
+    pub moves : MovesMark old new
+    pub counted : Counted b.faults b.stops old.second new.second written
+
   -- a look at both changes no byte and counts nothing, or one of them failed in it, in the last call of all
   pub record Looks {T E : Type 0} (old new : Pair A B) (result : Result T E) : Type 0 where
     pub keeps : Keeps old new
@@ -40,8 +48,14 @@ module _ {A B : Type 0} (a : Ghosts A) (b : Ghosts B) where
     pub failed : OnErr result (OneFailed a b (old.first, old.second) new)
     pub last : OnErr result (LastReadFailed a b new)
 
-  -- the mark was read from the second, and no bank was stopped
-  pub record ReadsMark {T E : Type 0} (old new : Pair A B) (result : Result T E) : Type 0 where
+  -- and it finds out whether this is so
+  pub record LooksFor {E : Type 0} (is : Bool) (old new : Pair A B) (result : Result Bool E) : Type 0 where
+    pub found : IfOk result (λ it. BothTell a b → it ≡ is)
+    pub looks : Looks old new result
+
+  -- the mark was read from the second: which is the good one by it. No bank was stopped
+  pub record ReadsMark {E : Type 0} (old new : Pair A B) (result : Result Alone E) : Type 0 where
+    pub good : IfOk result (λ good. IsHeld a b (in_use_alone good) new)
     pub keeps : Keeps old new
     pub other : new.first ≡ old.first
     pub stops : SameStops a b (old.first, old.second) new

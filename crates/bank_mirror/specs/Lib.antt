@@ -1,10 +1,11 @@
 pub mod Pairs
 pub mod Moments
 pub mod Counts
-pub mod Calls
 pub mod LastCalls
 pub mod BanksInUse
 pub mod Kept
+pub mod Calls
+pub mod CallsInUse
 pub mod Copies
 pub mod Mirrors
 pub mod Checks

@@ -1,11 +1,15 @@
 -- Two banks as one bank.
-use Rattle.std.specs.Prelude.{◌≡◌, ℕ, ◌≤◌, Bool, true, false, List}
+use Rattle.std.specs.Prelude.{◌≡◌, ℕ, ◌≤◌, ◌∷◌, Bool, true, false, List, length, OnOk, OnErr, Result}
+use Rattle.tbl_kinds.specs.Numbers.{piece, patched}
 use Rattle.tbl_outside.specs.declared.bank.Written.{Written}
 use Rattle.tbl_outside.specs.declared.bank.Written.TheVariants.{Done, Failed, Stopped}
 use Rattle.tbl_outside.specs.declared.bank.Bank.{Ghosts}
+use Rattle.tbl_outside.specs.Bank.{Torn, LeavesOnly}
+use Rattle.tbl_outside.specs.BankCalls.{write}
+use Rattle.tbl_outside.specs.Counts.{Still, RoseAlone, Counted}
 use Rattle.bank_mirror.specs.declared.in_use.InUse.{InUse}
-use Rattle.bank_mirror.specs.declared.in_use.InUse.TheVariants.{Unread}
-use Rattle.bank_mirror.specs.Pairs.{Pair}
+use Rattle.bank_mirror.specs.declared.in_use.InUse.TheVariants.{Both, Unread}
+use Rattle.bank_mirror.specs.Pairs.{Pair, BothTell, BothTellMoments, bytes_of}
 use Rattle.bank_mirror.specs.Moments.{moment, LeftSince}
 use Rattle.bank_mirror.specs.Counts.{opening_of, IsSince, stops_of, OneFailed, MayFail}
 use Rattle.bank_mirror.specs.LastCalls.{LastReadFailed}
@@ -61,3 +65,25 @@ pub record KeepsRules {A B : Type 0} (a : Ghosts A) (b : Ghosts B) (old new : Mi
 pub record FailsFor {A B : Type 0} (a : Ghosts A) (b : Ghosts B) (old new : Mirrored A B) : Type 0 where
   pub fault : OneFailed a b (old.pair.first, old.pair.second) new.pair
   pub cause : MayFail a b new.mark_failed (opening_of new.pair) new.pair
+
+module _ {A B : Type 0} (a : Ghosts A) (b : Ghosts B) where
+  -- a read of both as one, which puts no bank out
+  pub record ReadsBoth {T E : Type 0} (old new : Mirrored A B) (at : ℕ) (into filled : List ℕ) (result : Result T E) : Type 0 where
+    pub read : OnOk result (BothTell a b → filled ≡ piece at (length into) (bytes_of a b old.pair))
+    pub kept : BothTell a b → bytes_of a b new.pair ≡ bytes_of a b old.pair
+    pub moments : BothTellMoments a b → LeavesOnly moment_of (LeftSinceOf a b) old new (λ image. image ≡ bytes_of a b old.pair)
+    pub done : OnOk result (Still faults_of (stops_in a b) old new)
+    pub failed : OnErr result (RoseAlone faults_of (stops_in a b) old new)
+    pub rules : KeepsRules a b old new
+    pub why : OnErr result (FailsFor a b old new)
+    pub stays : (old.in_use ≡ Unread → ⊥) → new.in_use ≡ old.in_use
+
+-- a write over a piece of both as one, which with both in is one write of the first
+pub record WritesBoth {A B : Type 0} (a : Ghosts A) (b : Ghosts B) (old new : Mirrored A B) (at : ℕ) (bytes : List ℕ) (written : Written) : Type 0 where
+  pub done : written ≡ Done → BothTell a b → bytes_of a b new.pair ≡ patched (bytes_of a b old.pair) at bytes
+  pub torn : BothTell a b → Torn at (length bytes) (bytes_of a b old.pair) (bytes_of a b new.pair)
+  pub moments : BothTellMoments a b → LeavesOnly moment_of (LeftSinceOf a b) old new (Torn at (length bytes) (bytes_of a b old.pair))
+  pub counted : Counted faults_of (stops_in a b) old new written
+  pub rules : KeepsRules a b old new
+  pub why : written ≡ Failed → FailsFor a b old new
+  pub once : old.in_use ≡ Both → a.tells_calls new.pair.first → a.calls new.pair.first ≡ write at bytes ∷ a.calls old.pair.first

@@ -7,9 +7,9 @@ use Rattle.bank_mirror.specs.declared.opening.OpenFault.TheVariants.{Fault, Stop
 use Rattle.bank_mirror.specs.declared.in_use.InUse.{InUse}
 use Rattle.bank_mirror.specs.declared.in_use.InUse.TheVariants.{Both, FirstOut}
 use Rattle.bank_mirror.specs.declared.in_use.Alone.{Alone}
-use Rattle.bank_mirror.specs.declared.in_use.Alone.TheVariants.{First}
+use Rattle.bank_mirror.specs.declared.in_use.Alone.TheVariants.{First, Second}
 use Rattle.bank_mirror.specs.declared.opening.Opened.{Opened}
-use Rattle.bank_mirror.specs.Pairs.{Pair, BothTell, AsWas, bytes_of, front_of, is_marked}
+use Rattle.bank_mirror.specs.Pairs.{Pair, BothTell, AsWas, bytes_of, front_of, is_marked, shown_by}
 use Rattle.bank_mirror.specs.Counts.{SecondFailed, OneFailed, OneStopped, BothStill}
 use Rattle.bank_mirror.specs.LastCalls.{LastReadFailed}
 use Rattle.bank_mirror.specs.BanksInUse.{IsHeld, IsExcused, in_use_alone, OtherIsLeft}
@@ -51,12 +51,6 @@ pub record CallsFail {A B : Type 0} (a : Ghosts A) (b : Ghosts B) (opening : A �
   pub counted : CallsCounted a b opening new fault
   pub last : fault ≡ Fault → LastReadFailed a b new
 
--- so an opening ends whose memory is taken, and at no moment both hold anything but such bytes as one
-pub record EndsOpening {A B : Type 0} (a : Ghosts A) (b : Ghosts B) (marked : Bool) (IsSuch : List ℕ → Type 0) (old new : Pair A B) (result : Result Opened OpenFault) : Type 0 where
-  pub opened : IfOk result (λ o. Opens a b marked (old.first, old.second) new o.in_use o.mark_failed)
-  pub failed : IfErr result (CallsFail a b (old.first, old.second) new)
-  pub holds : HoldsOnly a b old new IsSuch
-
 -- .. from the beginning ..
 pub record OpenFails {A B : Type 0} (a : Ghosts A) (b : Ghosts B) (opening : A × B) (new : Pair A B) (fault : OpenFault) : Type 0 where
   pub counted : OpenCounted a b opening new fault
@@ -69,18 +63,34 @@ pub record CheckFails {A B : Type 0} (a : Ghosts A) (b : Ghosts B) (live_mark : 
   pub blank : fault ≡ Blank → BothTell a b → loses_store live_mark (a.now opening.0) (b.now opening.1) ≡ true
   pub untouched : fault ≡ Blank → BothTell a b → (a.now new.first ≡ a.now opening.0) × (b.now new.second ≡ b.now opening.1)
 
--- so an opening ends that looks first
-pub record EndsChecked {A B : Type 0} (a : Ghosts A) (b : Ghosts B) (live_mark : List ℕ) (old new : Pair A B) (result : Result Opened OpenFault) : Type 0 where
+-- so an opening ends, and at no moment both hold anything but what they held as one
+pub record EndsBy {A B : Type 0} (a : Ghosts A) (b : Ghosts B) (Fails : A × B → Pair A B → OpenFault → Type 0) (old new : Pair A B) (result : Result Opened OpenFault) : Type 0 where
   pub opened : IfOk result (λ o. Opens a b (is_marked a b old) (old.first, old.second) new o.in_use o.mark_failed)
-  pub keeps : IfOk result (λ _. BothTell a b → loses_store live_mark (a.now old.first) (b.now old.second) ≡ false)
-  pub failed : IfErr result (CheckFails a b live_mark (old.first, old.second) new)
+  pub failed : IfErr result (Fails (old.first, old.second) new)
   pub holds : HoldsOnly a b old new (λ image. image ≡ bytes_of a b old)
+
+-- once the memory is taken, and from the beginning
+abbrev pub EndsCalls : {A B : Type 0} → Ghosts A → Ghosts B → Pair A B → Pair A B → Result Opened OpenFault → Type 0
+EndsCalls a b = EndsBy a b (CallsFail a b)
+
+abbrev pub EndsOpening : {A B : Type 0} → Ghosts A → Ghosts B → Pair A B → Pair A B → Result Opened OpenFault → Type 0
+EndsOpening a b = EndsBy a b (OpenFails a b)
+
+-- so one ends that looks first
+pub record EndsChecked {A B : Type 0} (a : Ghosts A) (b : Ghosts B) (live_mark : List ℕ) (old new : Pair A B) (result : Result Opened OpenFault) : Type 0 where
+  pub ends : EndsBy a b (CheckFails a b live_mark) old new result
+  pub keeps : IfOk result (λ _. BothTell a b → loses_store live_mark (a.now old.first) (b.now old.second) ≡ false)
+
+-- the bytes of one of them are those of both then, and until then at no moment both hold anything but those, or what they held as one
+pub record TakesOne {A B : Type 0} (a : Ghosts A) (b : Ghosts B) (good : Alone) (old new : Pair A B) (result : Result Opened OpenFault) : Type 0 where
+  pub bytes : IfOk result (λ _. BothTell a b → bytes_of a b new ≡ shown_by a b good old)
+  pub holds : HoldsOnly a b old new (AsWas a b old.first old.second (shown_by a b good old))
 
 -- so one ends of which the second is the good one, the mark of which is set first
 pub record EndsSecond {A B : Type 0} (a : Ghosts A) (b : Ghosts B) (old new : Pair A B) (result : Result Opened OpenFault) : Type 0 where
   pub opened : IfOk result (λ o. Opens a b true (old.first, old.second) new o.in_use o.mark_failed)
-  pub bytes : IfOk result (λ _. BothTell a b → bytes_of a b new ≡ front_of a b old)
-  pub holds : HoldsOnly a b old new (AsWas a b old.first old.second (front_of a b old))
+  pub takes : TakesOne a b Second old new result
+  pub counted : IfErr result (OpenCounted a b (old.first, old.second) new)
 
 -- the mark is set, or what went wrong is counted. The first is as it was, and so is the second's front
 pub record SetsMark {A B E : Type 0} (a : Ghosts A) (b : Ghosts B) (old new : Pair A B) (result : Result E OpenFault) : Type 0 where
@@ -88,6 +98,7 @@ pub record SetsMark {A B E : Type 0} (a : Ghosts A) (b : Ghosts B) (old new : Pa
   pub front : BothTell a b → front_of a b new ≡ front_of a b old
   pub other : new.first ≡ old.first
   pub counted : IfErr result (CallsCounted a b (old.first, old.second) new)
+  pub holds : HoldsOnly a b old new (AsWas a b old.first old.second (front_of a b old))
 
 -- so one ends in which one goes on alone: the other one isn't written, and counts as out by a write of the mark that failed
 pub record OpensAlone {A B : Type 0} (a : Ghosts A) (b : Ghosts B) (alone : Alone) (opening : A × B) (new : Pair A B) (in_use : InUse) (mark_failed : Bool) : Type 0 where
@@ -101,3 +112,8 @@ pub record AloneFails {A B : Type 0} (a : Ghosts A) (b : Ghosts B) (alone : Alon
   pub second : alone ≡ First → ⊥
   pub left : new.first ≡ opening.0
   pub counted : CallsCounted a b opening new fault
+
+pub record EndsAlone {A B : Type 0} (a : Ghosts A) (b : Ghosts B) (alone : Alone) (old new : Pair A B) (result : Result Opened OpenFault) : Type 0 where
+  pub opened : IfOk result (λ o. OpensAlone a b alone (old.first, old.second) new o.in_use o.mark_failed)
+  pub failed : IfErr result (AloneFails a b alone (old.first, old.second) new)
+  pub takes : TakesOne a b alone old new result

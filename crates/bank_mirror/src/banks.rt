@@ -1,12 +1,9 @@
 //! Both banks, and each call of one of them. What a reset may leave meanwhile is an image of that one, beside the bytes
 //! of the other.
 
-ghost use Rattle.std.specs.Prelude.{◌≡◌, ◌+◌, ◌<◌, ◌≤◌, [], ◌∷◌, length, OnErr};
-ghost use Rattle.tbl_outside.specs.Bank.{Torn};
-ghost use Rattle.tbl_outside.specs.BankCalls.{write};
+ghost use Rattle.std.specs.Prelude.{◌≡◌, ◌+◌, ◌<◌, ◌≤◌, [], length};
 ghost use Rattle.bank_mirror.specs.Pairs.{Pair};
-ghost use Rattle.bank_mirror.specs.Calls.{ReadsBank, WritesBank, CallsFirst, CallsSecond};
-ghost use Rattle.bank_mirror.specs.LastCalls.{LastReadFailed};
+ghost use Rattle.bank_mirror.specs.Calls.{ReadsFirst, ReadsSecond, WritesFirst, WritesSecond};
 
 use http_server::Log;
 use std::marker::Model;
@@ -50,9 +47,7 @@ impl<A: Bank, B: Bank> Banks<A, B> {
 
     /// Both again, and what they were before each call.
     pub(crate) fn end(self) -> (A, B, Log<A, B>)
-        ensures first { result.0 ≡ self.first }
-        ensures second { result.1 ≡ self.second }
-        ensures past { result.2.items ≡ self.past }
+        ensures { record { first = result.0; second = result.1; past = result.2.items } ≡ self }
     {
         (self.first, self.second, self.past)
     }
@@ -68,9 +63,7 @@ impl<A: Bank, B: Bank> Banks<A, B> {
     /// Reads a piece of the first.
     pub(crate) fn read_first(&mut self, at: u32, into: &mut [u8]) -> Result<(), Failed>
         requires { at + length into.old ≤ A.size self.old.first }
-        ensures reads { ReadsBank A.Bank self.old.first self.new.first at into.old into.new result }
-        ensures calls { CallsFirst A.Bank B.Bank self.old self.new (λ image. image ≡ A.now self.old.first) }
-        ensures last { OnErr result (LastReadFailed A.Bank B.Bank self.new) }
+        ensures { ReadsFirst A.Bank B.Bank self.old self.new at into.old into.new result }
     {
         let past = self.past.and(&self.first, &self.second);
         let read = self.first.read_at(at, into);
@@ -81,10 +74,7 @@ impl<A: Bank, B: Bank> Banks<A, B> {
     /// Reads a piece of what the second has for the first, with its mark.
     pub(crate) fn read_second(&mut self, at: u32, into: &mut [u8]) -> Result<(), Failed>
         requires { at + length into.old ≤ A.size self.old.first + 1 }
-        ensures larger { A.size self.old.first < B.size self.old.second }
-        ensures reads { ReadsBank B.Bank self.old.second self.new.second at into.old into.new result }
-        ensures calls { CallsSecond A.Bank B.Bank self.old self.new (λ image. image ≡ B.now self.old.second) }
-        ensures last { OnErr result (LastReadFailed A.Bank B.Bank self.new) }
+        ensures { ReadsSecond A.Bank B.Bank self.old self.new at into.old into.new result }
     {
         let past = self.past.and(&self.first, &self.second);
         let read = self.second.read_at(at, into);
@@ -95,9 +85,7 @@ impl<A: Bank, B: Bank> Banks<A, B> {
     /// Writes over a piece of the first.
     pub(crate) fn write_first(&mut self, at: u32, bytes: &[u8]) -> Written
         requires { at + length bytes.now ≤ A.size self.old.first }
-        ensures writes { WritesBank A.Bank self.old.first self.new.first at bytes.now result }
-        ensures calls { CallsFirst A.Bank B.Bank self.old self.new (Torn at (length bytes.now) (A.now self.old.first)) }
-        ensures once { A.tells_calls self.new.first → A.calls self.new.first ≡ write at bytes.now ∷ A.calls self.old.first }
+        ensures { WritesFirst A.Bank B.Bank self.old self.new at bytes.now result }
     {
         let past = self.past.and(&self.first, &self.second);
         let written = self.first.write_at(at, bytes);
@@ -108,9 +96,7 @@ impl<A: Bank, B: Bank> Banks<A, B> {
     /// Writes over a piece of what the second has for the first, with its mark.
     pub(crate) fn write_second(&mut self, at: u32, bytes: &[u8]) -> Written
         requires { at + length bytes.now ≤ A.size self.old.first + 1 }
-        ensures larger { A.size self.old.first < B.size self.old.second }
-        ensures writes { WritesBank B.Bank self.old.second self.new.second at bytes.now result }
-        ensures calls { CallsSecond A.Bank B.Bank self.old self.new (Torn at (length bytes.now) (B.now self.old.second)) }
+        ensures { WritesSecond A.Bank B.Bank self.old self.new at bytes.now result }
     {
         let past = self.past.and(&self.first, &self.second);
         let written = self.second.write_at(at, bytes);

@@ -1,8 +1,7 @@
 //! An opening that looks first, and doesn't copy a blank first bank over a live store in the second.
 
-ghost use Rattle.std.specs.Prelude.{◌≡◌, ◌≤◌, ◌&&◌, length, IfOk};
-ghost use Rattle.bank_mirror.specs.Pairs.{BothTell};
-ghost use Rattle.bank_mirror.specs.Kept.{Looks};
+ghost use Rattle.std.specs.Prelude.{◌≤◌, ◌&&◌};
+ghost use Rattle.bank_mirror.specs.Kept.{LooksFor};
 ghost use Rattle.bank_mirror.specs.Openings.{EndsChecked};
 ghost use Rattle.bank_mirror.specs.Checks.{is_blank, is_live, loses_store};
 
@@ -17,8 +16,7 @@ impl<A: Bank, B: Bank> Banks<A, B> {
     /// Reads whether the first is blank.
     fn first_is_blank(&mut self) -> Result<bool, Failed>
         requires room { 3 ≤ A.size self.old.first }
-        ensures blank { IfOk result (λ blank. BothTell A.Bank B.Bank → blank ≡ is_blank (A.now self.old.first)) }
-        ensures looks { Looks A.Bank B.Bank self.old self.new result }
+        ensures { LooksFor A.Bank B.Bank (is_blank (A.now self.old.first)) self.old self.new result }
     {
         let mut front = [0; 3];
         match self.read_first(0, &mut front) {
@@ -30,8 +28,7 @@ impl<A: Bank, B: Bank> Banks<A, B> {
     /// Reads whether the second begins with the mark of a live store.
     fn second_is_live(&mut self, live_mark: &[u8; 3]) -> Result<bool, Failed>
         requires room { 3 ≤ A.size self.old.first }
-        ensures live { IfOk result (λ live. BothTell A.Bank B.Bank → live ≡ is_live live_mark.now (B.now self.old.second)) }
-        ensures looks { Looks A.Bank B.Bank self.old self.new result }
+        ensures { LooksFor A.Bank B.Bank (is_live live_mark.now (B.now self.old.second)) self.old self.new result }
     {
         let mut front = [0; 3];
         match self.read_second(0, &mut front) {
@@ -43,9 +40,8 @@ impl<A: Bank, B: Bank> Banks<A, B> {
     /// Reads whether the first is blank and the second has a live store.
     fn is_blank_over_live(&mut self, live_mark: &[u8; 3]) -> Result<bool, Failed>
         requires room { 3 ≤ A.size self.old.first }
-        ensures is { IfOk result (λ it. BothTell A.Bank B.Bank →
-            it ≡ (is_blank (A.now self.old.first) && is_live live_mark.now (B.now self.old.second))) }
-        ensures looks { Looks A.Bank B.Bank self.old self.new result }
+        ensures { LooksFor A.Bank B.Bank (is_blank (A.now self.old.first) && is_live live_mark.now (B.now self.old.second))
+            self.old self.new result }
     {
         match self.first_is_blank() {
             Ok(true) => self.second_is_live(live_mark),
@@ -57,27 +53,12 @@ impl<A: Bank, B: Bank> Banks<A, B> {
     /// Reads whether an opening would copy a blank first over a live store in the second.
     fn loses_store(&mut self, live_mark: &[u8; 3]) -> Result<bool, Failed>
         requires room { 3 ≤ A.size self.old.first }
-        ensures loses { IfOk result (λ loses. BothTell A.Bank B.Bank →
-            loses ≡ loses_store live_mark.now (A.now self.old.first) (B.now self.old.second)) }
-        ensures looks { Looks A.Bank B.Bank self.old self.new result }
+        ensures { LooksFor A.Bank B.Bank (loses_store live_mark.now (A.now self.old.first) (B.now self.old.second)) self.old self.new result }
     {
         match self.good_one() {
             Ok(Alone::First) => self.is_blank_over_live(live_mark),
             Ok(Alone::Second) => Ok(false),
             Err(Failed) => Err(Failed),
-        }
-    }
-
-    /// Makes both hold what they hold together, unless a store would be lost by that, by way of a buffer.
-    fn agree_checked(&mut self, buffer: &mut [u8], live_mark: &[u8; 3]) -> Result<Opened, OpenFault>
-        requires buffer { length buffer.old ≡ PIECE }
-        requires room { 3 ≤ A.size self.old.first }
-        ensures { EndsChecked A.Bank B.Bank live_mark.now self.old self.new result }
-    {
-        match self.loses_store(live_mark) {
-            Ok(true) => Err(OpenFault::Blank),
-            Ok(false) => self.agree(buffer),
-            Err(Failed) => Err(OpenFault::Fault),
         }
     }
 
@@ -92,6 +73,10 @@ impl<A: Bank, B: Bank> Banks<A, B> {
         ensures { EndsChecked A.Bank B.Bank live_mark.now self.old self.new result }
     {
         let mut buffer = vec![in alloc; 0; PIECE as usize]?;
-        self.agree_checked(&mut buffer, live_mark)
+        match self.loses_store(live_mark) {
+            Ok(true) => Err(OpenFault::Blank),
+            Ok(false) => self.agree(&mut buffer),
+            Err(Failed) => Err(OpenFault::Fault),
+        }
     }
 }

@@ -1,8 +1,9 @@
 //! The copy that an opening makes, a piece at a time: the bank that is copied from stays as it is.
 
-ghost use Rattle.std.specs.Prelude.{◌≡◌, ◌+◌, ◌≤◌, Ok, length};
+ghost use Rattle.std.specs.Prelude.{◌≡◌, ◌+◌, length};
 ghost use Rattle.bank_mirror.specs.BanksInUse.{IsHeld, in_use_alone};
-ghost use Rattle.bank_mirror.specs.Copies.{SameUpTo, Copies, EndsCopy};
+ghost use Rattle.bank_mirror.specs.CallsInUse.{CanReach};
+ghost use Rattle.bank_mirror.specs.Copies.{SameUpTo, CopiesTo};
 
 use crate::banks::Banks;
 use crate::in_use::Alone;
@@ -16,9 +17,7 @@ impl<A: Bank, B: Bank> Banks<A, B> {
     pub(crate) fn copy_from(&mut self, good: Alone, buffer: &mut [u8]) -> Result<Written, Failed>
         requires buffer { length buffer.old ≡ PIECE }
         requires held { IsHeld A.Bank B.Bank (in_use_alone good) self.old }
-        ensures done { result ≡ Ok Written.Done → SameUpTo A.Bank B.Bank (A.size self.old.first) self.new }
-        ensures copies { Copies A.Bank B.Bank good self.old self.new }
-        ensures ends { EndsCopy A.Bank B.Bank good self.old self.new result }
+        ensures { CopiesTo A.Bank B.Bank good (A.size self.old.first) self.old self.new result }
     {
         let size = self.size();
         let mut at = 0;
@@ -36,12 +35,9 @@ impl<A: Bank, B: Bank> Banks<A, B> {
 
     /// Copies a piece of the good one over the other one, which already has what is before it.
     fn copy_piece(&mut self, good: Alone, at: u32, piece: &mut [u8]) -> Result<Written, Failed>
-        requires room { at + length piece.old ≤ A.size self.old.first }
-        requires held { IsHeld A.Bank B.Bank (in_use_alone good) self.old }
+        requires reach { CanReach A.Bank B.Bank (in_use_alone good) self.old at piece.old }
         requires copied { SameUpTo A.Bank B.Bank at self.old }
-        ensures done { result ≡ Ok Written.Done → SameUpTo A.Bank B.Bank (at + length piece.old) self.new }
-        ensures copies { Copies A.Bank B.Bank good self.old self.new }
-        ensures ends { EndsCopy A.Bank B.Bank good self.old self.new result }
+        ensures { CopiesTo A.Bank B.Bank good (at + length piece.old) self.old self.new result }
     {
         match good {
             Alone::First => match self.read_first(at, piece) {

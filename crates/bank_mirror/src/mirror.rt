@@ -1,14 +1,8 @@
 // Two banks as one bank.
-ghost use Rattle.std.specs.Prelude.{◌≡◌, ◌+◌, ◌<◌, ◌≤◌, ◌∷◌, [], List, ℕ, true, false, if◌then◌else◌, length, OnOk, OnErr, IfOk, IfErr};
-ghost use Rattle.tbl_kinds.specs.Numbers.{piece, patched};
-ghost use Rattle.tbl_outside.specs.Bank.{Torn, LeavesOnly};
-ghost use Rattle.tbl_outside.specs.BankCalls.{read, write};
-ghost use Rattle.tbl_outside.specs.Counts.{Still, RoseAlone, Counted, risen};
-ghost use Rattle.bank_mirror.specs.Pairs.{BothTell, BothTellMoments, is_stale, bytes_of};
-ghost use Rattle.bank_mirror.specs.Openings.{Opens, OpensAlone, OpenCounted, OpenFails, CheckFails, AloneFails};
-ghost use Rattle.bank_mirror.specs.Begun.{EndsAsOne, EndsAlone, IsMade, unused, returned};
-ghost use Rattle.bank_mirror.specs.Checks.{loses_store};
-ghost use Rattle.bank_mirror.specs.Mirrors.{IsMirror, moment_of, LeftSinceOf, faults_of, stops_in, fails, KeepsRules, FailsFor};
+ghost use Rattle.std.specs.Prelude.{◌≡◌, ◌+◌, ◌<◌, ◌≤◌, if◌then◌else◌, length, IfOk};
+ghost use Rattle.tbl_outside.specs.Counts.{risen};
+ghost use Rattle.bank_mirror.specs.Begun.{OpensBoth, OpensChecked, TakesSecond, MayGoAlone, GoesAlone, IsMade, unused};
+ghost use Rattle.bank_mirror.specs.Mirrors.{IsMirror, fails, ReadsBoth, WritesBoth};
 
 use crate::banks::Banks;
 use crate::in_use::{Alone, InUse};
@@ -80,9 +74,7 @@ impl<A: Bank, B: Bank> Mirror<A, B> {
     /// bank in which a write of the copy fails is out. All memory that it needs is taken before the first call.
     pub fn open(alloc: Global, first: A, second: B) -> Result<Mirror<A, B>, OpenBack<A, B>>
         requires { A.size first < B.size second }
-        ensures ends { EndsAsOne A.Bank B.Bank first second result }
-        ensures opened { IfOk result (λ m. Opens A.Bank B.Bank (is_stale (length (A.now first)) (B.now second)) (first, second) m.pair m.in_use m.mark_failed) }
-        ensures failed { IfErr result (λ back. OpenFails A.Bank B.Bank (first, second) (returned back) back.cause) }
+        ensures opens { OpensBoth A.Bank B.Bank first second result }
     {
         let mut banks = Banks::make(first, second);
         let opened = banks.open(alloc);
@@ -100,11 +92,7 @@ impl<A: Bank, B: Bank> Mirror<A, B> {
     ) -> Result<Mirror<A, B>, OpenBack<A, B>>
         requires room { A.size first < B.size second }
         requires front { 3 ≤ A.size first }
-        ensures ends { EndsAsOne A.Bank B.Bank first second result }
-        ensures opened { IfOk result (λ m. Opens A.Bank B.Bank (is_stale (length (A.now first)) (B.now second)) (first, second) m.pair m.in_use m.mark_failed) }
-        // It opens both unless a blank first would be copied over a store, and in that case it writes to neither.
-        ensures keeps { IfOk result (λ m. BothTell A.Bank B.Bank → loses_store live_mark.now (A.now first) (B.now second) ≡ false) }
-        ensures failed { IfErr result (λ back. CheckFails A.Bank B.Bank live_mark.now (first, second) (returned back) back.cause) }
+        ensures opens { OpensChecked A.Bank B.Bank live_mark.now first second result }
     {
         let mut banks = Banks::make(first, second);
         let opened = banks.open_checked(alloc, live_mark);
@@ -116,9 +104,7 @@ impl<A: Bank, B: Bank> Mirror<A, B> {
     /// All memory that it needs is taken before the first call.
     pub fn take_second(alloc: Global, first: A, second: B) -> Result<Mirror<A, B>, OpenBack<A, B>>
         requires { A.size first < B.size second }
-        ensures ends { EndsAlone A.Bank B.Bank Alone.Second first second result }
-        ensures opened { IfOk result (λ m. Opens A.Bank B.Bank true (first, second) m.pair m.in_use m.mark_failed) }
-        ensures counted { IfErr result (λ back. OpenCounted A.Bank B.Bank (first, second) (returned back) back.cause) }
+        ensures takes { TakesSecond A.Bank B.Bank first second result }
     {
         let mut banks = Banks::make(first, second);
         let opened = banks.open_second(alloc);
@@ -130,10 +116,8 @@ impl<A: Bank, B: Bank> Mirror<A, B> {
     /// the next opening of both copies the one that went on over the other. Each failure of the one that goes on is told.
     pub fn open_alone(first: A, second: B, alone: Alone) -> Result<Mirror<A, B>, OpenBack<A, B>>
         requires room { A.size first < B.size second }
-        requires fresh { alone ≡ Alone.First → BothTell A.Bank B.Bank → is_stale (length (A.now first)) (B.now second) ≡ false }
-        ensures ends { EndsAlone A.Bank B.Bank alone first second result }
-        ensures opened { IfOk result (λ m. OpensAlone A.Bank B.Bank alone (first, second) m.pair m.in_use m.mark_failed) }
-        ensures failed { IfErr result (λ back. AloneFails A.Bank B.Bank alone (first, second) (returned back) back.cause) }
+        requires fresh { MayGoAlone A.Bank B.Bank alone first second }
+        ensures goes { GoesAlone A.Bank B.Bank alone first second result }
     {
         let mut banks = Banks::make(first, second);
         let opened = banks.leave_out(alone);
@@ -228,19 +212,7 @@ impl<A: Bank, B: Bank> Bank for Mirror<A, B> {
 
     fn read_at(&mut self, at: u32, into: &mut [u8]) -> Result<(), Failed>
         requires { at + length into.old ≤ A.size self.old.pair.first }
-        ensures read { OnOk result (BothTell A.Bank B.Bank →
-            into.new ≡ piece at (length into.old) (bytes_of A.Bank B.Bank self.old.pair)) }
-        ensures kept { BothTell A.Bank B.Bank →
-            bytes_of A.Bank B.Bank self.new.pair ≡ bytes_of A.Bank B.Bank self.old.pair }
-        ensures moments { BothTellMoments A.Bank B.Bank → LeavesOnly moment_of (LeftSinceOf A.Bank B.Bank) self.old self.new
-            (λ image. image ≡ bytes_of A.Bank B.Bank self.old.pair) }
-        ensures done { OnOk result (Still faults_of (stops_in A.Bank B.Bank) self.old self.new) }
-        ensures failed { OnErr result (RoseAlone faults_of (stops_in A.Bank B.Bank) self.old self.new) }
-        ensures rules { KeepsRules A.Bank B.Bank self.old self.new }
-        ensures why { OnErr result (FailsFor A.Bank B.Bank self.old self.new) }
-
-        // It puts no bank out.
-        ensures stays { (self.old.in_use ≡ InUse.Unread → ⊥) → self.new.in_use ≡ self.old.in_use }
+        ensures reads { ReadsBoth A.Bank B.Bank self.old self.new at into.old into.new result }
     {
         let end = self.banks.read(self.in_use, at, into);
         self.in_use = end.in_use;
@@ -250,19 +222,7 @@ impl<A: Bank, B: Bank> Bank for Mirror<A, B> {
 
     fn write_at(&mut self, at: u32, bytes: &[u8]) -> Written
         requires { at + length bytes.now ≤ A.size self.old.pair.first }
-        ensures done { result ≡ Written.Done → BothTell A.Bank B.Bank →
-            bytes_of A.Bank B.Bank self.new.pair ≡ patched (bytes_of A.Bank B.Bank self.old.pair) at bytes.now }
-        ensures torn { BothTell A.Bank B.Bank → Torn at (length bytes.now)
-            (bytes_of A.Bank B.Bank self.old.pair) (bytes_of A.Bank B.Bank self.new.pair) }
-        ensures moments { BothTellMoments A.Bank B.Bank → LeavesOnly moment_of (LeftSinceOf A.Bank B.Bank) self.old self.new
-            (Torn at (length bytes.now) (bytes_of A.Bank B.Bank self.old.pair)) }
-        ensures counted { Counted faults_of (stops_in A.Bank B.Bank) self.old self.new result }
-        ensures rules { KeepsRules A.Bank B.Bank self.old self.new }
-        ensures why { result ≡ Written.Failed → FailsFor A.Bank B.Bank self.old self.new }
-
-        // With both in, the first is written once.
-        ensures once { self.old.in_use ≡ InUse.Both → A.tells_calls self.new.pair.first →
-            A.calls self.new.pair.first ≡ write at bytes.now ∷ A.calls self.old.pair.first }
+        ensures writes { WritesBoth A.Bank B.Bank self.old self.new at bytes.now result }
     {
         let ended = self.banks.write(self.in_use, at, bytes);
         self.in_use = ended.in_use;

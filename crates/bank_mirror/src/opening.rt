@@ -1,10 +1,9 @@
 //! An opening of two banks as one: afterwards both hold the same, or one of them is out.
 
-ghost use Rattle.std.specs.Prelude.{◌≡◌, true, false, length, IfOk, IfErr};
-ghost use Rattle.bank_mirror.specs.Pairs.{BothTell, bytes_of, is_marked, shown_by};
-ghost use Rattle.bank_mirror.specs.BanksInUse.{IsHeld};
-ghost use Rattle.bank_mirror.specs.Kept.{HoldsOnly};
-ghost use Rattle.bank_mirror.specs.Openings.{Opens, OpenFails, EndsOpening};
+ghost use Rattle.std.specs.Prelude.{◌≡◌, length};
+ghost use Rattle.bank_mirror.specs.Pairs.{BothTell, front_of};
+ghost use Rattle.bank_mirror.specs.BanksInUse.{IsHeld, in_use_alone};
+ghost use Rattle.bank_mirror.specs.Openings.{EndsCalls, EndsOpening};
 
 use crate::banks::Banks;
 use crate::copies::PIECE;
@@ -52,9 +51,7 @@ pub(crate) struct Opened {
 impl<A: Bank, B: Bank> Banks<A, B> {
     /// Makes both hold what they hold together. All memory that it needs is taken before the first call.
     pub(crate) fn open(&mut self, alloc: Global) -> Result<Opened, OpenFault>
-        ensures opened { IfOk result (λ o. Opens A.Bank B.Bank (is_marked A.Bank B.Bank self.old) (self.old.first, self.old.second) self.new o.in_use o.mark_failed) }
-        ensures failed { IfErr result (OpenFails A.Bank B.Bank (self.old.first, self.old.second) self.new) }
-        ensures holds { HoldsOnly A.Bank B.Bank self.old self.new (λ image. image ≡ bytes_of A.Bank B.Bank self.old) }
+        ensures { EndsOpening A.Bank B.Bank self.old self.new result }
     {
         let mut buffer = vec![in alloc; 0; PIECE as usize]?;
         self.agree(&mut buffer)
@@ -63,46 +60,30 @@ impl<A: Bank, B: Bank> Banks<A, B> {
     /// Makes both hold what they hold together, by way of a buffer.
     pub(crate) fn agree(&mut self, buffer: &mut [u8]) -> Result<Opened, OpenFault>
         requires { length buffer.old ≡ PIECE }
-        ensures { EndsOpening A.Bank B.Bank (is_marked A.Bank B.Bank self.old) (λ image. image ≡ bytes_of A.Bank B.Bank self.old) self.old self.new result }
+        ensures { EndsCalls A.Bank B.Bank self.old self.new result }
     {
         match self.good_one() {
-            Ok(Alone::First) => self.copy_over(buffer),
-            Ok(Alone::Second) => self.copy_back(buffer),
+            Ok(good) => self.copy_good(good, buffer),
             Err(Failed) => Err(OpenFault::Fault),
         }
     }
 
-    /// Copies the first over the second's front.
-    fn copy_over(&mut self, buffer: &mut [u8]) -> Result<Opened, OpenFault>
+    /// Copies the good one, as the mark says, over the other one. If that is the first, the mark is taken away last.
+    fn copy_good(&mut self, good: Alone, buffer: &mut [u8]) -> Result<Opened, OpenFault>
         requires buffer { length buffer.old ≡ PIECE }
-        requires held { IsHeld A.Bank B.Bank InUse.SecondOut self.old }
-        ensures ends { EndsOpening A.Bank B.Bank false (λ image. image ≡ shown_by A.Bank B.Bank Alone.First self.old) self.old self.new result }
-        ensures mark { IfOk result (λ o. o.mark_failed ≡ false) }
+        requires held { IsHeld A.Bank B.Bank (in_use_alone good) self.old }
+        ensures { EndsCalls A.Bank B.Bank self.old self.new result }
     {
-        match self.copy_from(Alone::First, buffer) {
-            Ok(Written::Done) => Ok(Opened {
-                in_use: InUse::Both,
-                mark_failed: false,
-            }),
+        match self.copy_from(good, buffer) {
+            Ok(Written::Done) => match good {
+                Alone::First => Ok(Opened {
+                    in_use: InUse::Both,
+                    mark_failed: false,
+                }),
+                Alone::Second => self.clear_mark(),
+            },
             Ok(Written::Failed) => Ok(Opened {
-                in_use: InUse::SecondOut,
-                mark_failed: false,
-            }),
-            Ok(Written::Stopped) => Err(OpenFault::Stopped),
-            Err(Failed) => Err(OpenFault::Fault),
-        }
-    }
-
-    /// Copies the second's front over the first, and takes the mark away last.
-    fn copy_back(&mut self, buffer: &mut [u8]) -> Result<Opened, OpenFault>
-        requires buffer { length buffer.old ≡ PIECE }
-        requires held { IsHeld A.Bank B.Bank InUse.FirstOut self.old }
-        ensures { EndsOpening A.Bank B.Bank true (λ image. image ≡ shown_by A.Bank B.Bank Alone.Second self.old) self.old self.new result }
-    {
-        match self.copy_from(Alone::Second, buffer) {
-            Ok(Written::Done) => self.clear_mark(),
-            Ok(Written::Failed) => Ok(Opened {
-                in_use: InUse::FirstOut,
+                in_use: good.in_use(),
                 mark_failed: false,
             }),
             Ok(Written::Stopped) => Err(OpenFault::Stopped),
@@ -112,8 +93,9 @@ impl<A: Bank, B: Bank> Banks<A, B> {
 
     /// Takes the mark away, where both hold the same. After a write of it that failed it says which is in.
     fn clear_mark(&mut self) -> Result<Opened, OpenFault>
-        requires { BothTell A.Bank B.Bank → shown_by A.Bank B.Bank Alone.Second self.old ≡ A.now self.old.first }
-        ensures { EndsOpening A.Bank B.Bank true (λ image. image ≡ A.now self.old.first) self.old self.new result }
+        requires held { IsHeld A.Bank B.Bank InUse.FirstOut self.old }
+        requires front { BothTell A.Bank B.Bank → front_of A.Bank B.Bank self.old ≡ A.now self.old.first }
+        ensures { EndsCalls A.Bank B.Bank self.old self.new result }
     {
         match self.write_mark(0) {
             Written::Done => Ok(Opened {

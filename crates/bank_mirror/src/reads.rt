@@ -1,9 +1,7 @@
 //! A read of what the two banks hold together, from one that is in.
 
-ghost use Rattle.std.specs.Prelude.{◌≡◌, ◌+◌, ◌≤◌, length, OnErr, IsErr};
-ghost use Rattle.bank_mirror.specs.Counts.{BothFailed};
-ghost use Rattle.bank_mirror.specs.BanksInUse.{IsHeld, in_use_alone, GoesAlone};
-ghost use Rattle.bank_mirror.specs.Kept.{ReadsPiece, LeavesInUse};
+ghost use Rattle.bank_mirror.specs.BanksInUse.{in_use_alone};
+ghost use Rattle.bank_mirror.specs.CallsInUse.{CanReach, ReadsInUse, ReadsStill};
 
 use crate::banks::Banks;
 use crate::in_use::{Alone, InUse};
@@ -19,11 +17,8 @@ pub(crate) struct ReadEnd {
 impl<A: Bank, B: Bank> Banks<A, B> {
     /// Reads a piece, by which of the banks is in.
     pub(crate) fn read(&mut self, in_use: InUse, at: u32, into: &mut [u8]) -> ReadEnd
-        requires room { at + length into.old ≤ A.size self.old.first }
-        requires held { IsHeld A.Bank B.Bank in_use self.old }
-        ensures piece { ReadsPiece A.Bank B.Bank self.old self.new at into.old into.new result.read }
-        ensures in_use { LeavesInUse A.Bank B.Bank in_use self.old self.new (IsErr result.read) result.in_use }
-        ensures stays { (in_use ≡ InUse.Unread → ⊥) → result.in_use ≡ in_use }
+        requires { CanReach A.Bank B.Bank in_use self.old at into.old }
+        ensures { ReadsInUse A.Bank B.Bank in_use self.old self.new at into.old into.new result }
     {
         match in_use {
             InUse::Both => ReadEnd {
@@ -44,10 +39,8 @@ impl<A: Bank, B: Bank> Banks<A, B> {
 
     /// Reads a piece of the good one, while the other one is out.
     fn read_alone(&mut self, good: Alone, at: u32, into: &mut [u8]) -> Result<(), Failed>
-        requires room { at + length into.old ≤ A.size self.old.first }
-        requires held { IsHeld A.Bank B.Bank (in_use_alone good) self.old }
-        ensures piece { ReadsPiece A.Bank B.Bank self.old self.new at into.old into.new result }
-        ensures alone { GoesAlone A.Bank B.Bank good self.old self.new (IsErr result) }
+        requires { CanReach A.Bank B.Bank (in_use_alone good) self.old at into.old }
+        ensures { ReadsStill A.Bank B.Bank (in_use_alone good) self.old self.new at into.old into.new result }
     {
         match good {
             Alone::First => self.read_first(at, into),
@@ -57,10 +50,8 @@ impl<A: Bank, B: Bank> Banks<A, B> {
 
     /// Reads a piece of the first, and where that fails of the second.
     fn read_either(&mut self, at: u32, into: &mut [u8]) -> Result<(), Failed>
-        requires room { at + length into.old ≤ A.size self.old.first }
-        requires held { IsHeld A.Bank B.Bank InUse.Both self.old }
-        ensures piece { ReadsPiece A.Bank B.Bank self.old self.new at into.old into.new result }
-        ensures failed { OnErr result (BothFailed A.Bank B.Bank (self.old.first, self.old.second) self.new) }
+        requires { CanReach A.Bank B.Bank InUse.Both self.old at into.old }
+        ensures { ReadsStill A.Bank B.Bank InUse.Both self.old self.new at into.old into.new result }
     {
         match self.read_first(at, into) {
             Ok(()) => Ok(()),
@@ -70,9 +61,8 @@ impl<A: Bank, B: Bank> Banks<A, B> {
 
     /// Reads the mark back, and then a piece of the one that is good by it.
     fn read_unread(&mut self, at: u32, into: &mut [u8]) -> ReadEnd
-        requires room { at + length into.old ≤ A.size self.old.first }
-        ensures piece { ReadsPiece A.Bank B.Bank self.old self.new at into.old into.new result.read }
-        ensures in_use { LeavesInUse A.Bank B.Bank InUse.Unread self.old self.new (IsErr result.read) result.in_use }
+        requires { CanReach A.Bank B.Bank InUse.Unread self.old at into.old }
+        ensures { ReadsInUse A.Bank B.Bank InUse.Unread self.old self.new at into.old into.new result }
     {
         match self.good_one() {
             Ok(good) => ReadEnd {

@@ -6,5 +6,4 @@ use Rattle.bank_mirror.proofs.mirror.made.Goals as goal
 pub returns-in-Err : goal.returns-in-Err
 returns-in-Err g c =
     let back : OpenBack _ _ = record { cause = c.in-Err.cause; first = c.end-first.result.0; second = c.end-first.result.1; past = c.end-first.result.2 } in
-    let ended = c.end-first.ensures in
-    subst (λ opened. IsMade c.args.banks opened (Err back)) (sym c.in-Err.is) (refl, λ i. record { first = ended.first i; second = ended.second i; past = ended.past i })
+    subst (λ opened. IsMade c.args.banks opened (Err back)) (sym c.in-Err.is) (refl, c.end-first.ensures)

@@ -1,4 +1,4 @@
-use Rattle.std.proofs.Common.{◌≡◌, ◌+◌, Ok, length, take, ap, subst, arith}
+use Rattle.std.proofs.Common.{◌≡◌, ◌+◌, Ok, length, take, ap, subst, arith, rules}
 use Rattle.std.proofs.lemmas.List.{length-take}
 use Rattle.bank_mirror.proofs.Copying.{copies_twice}
 use Rattle.bank_mirror.proofs.banks.Banks.copy_from.Goals as goal
@@ -14,17 +14,23 @@ loop-at-preserved g c =
       copies = copies_twice g.A.Bank g.B.Bank (λ told. (g.met.A.Bank.tells_both told.0, g.met.B.Bank.tells_both told.1)) c.args.good c.args.self.now c.loop-at.self c.copy_piece.new.self c.loop-at.invariant.copies call.copies;
     }
 
-pub returns-in-Ok-Failed-clause-copies : goal.returns-in-Ok-Failed-clause-copies
-returns-in-Ok-Failed-clause-copies g c =
-    let b = g.B.Bank in
-    copies_twice g.A.Bank b (λ told. (g.met.A.Bank.tells_both told.0, g.met.B.Bank.tells_both told.1)) c.args.good c.args.self.now c.loop-at.self c.copy_piece.new.self c.loop-at.invariant.copies c.copy_piece.ensures.copies
+pub returns-in-Ok-Failed : goal.returns-in-Ok-Failed
+returns-in-Ok-Failed g c = record {
+  done = λ is. absurd (cc is);
+  copies = copies_twice g.A.Bank g.B.Bank (λ told. (g.met.A.Bank.tells_both told.0, g.met.B.Bank.tells_both told.1)) c.args.good c.args.self.now c.loop-at.self c.copy_piece.new.self c.loop-at.invariant.copies c.copy_piece.ensures.copies;
+  ends = search rules;
+}
 
-pub returns-in-Ok-Stopped-clause-copies : goal.returns-in-Ok-Stopped-clause-copies
-returns-in-Ok-Stopped-clause-copies g c =
-    let b = g.B.Bank in
-    copies_twice g.A.Bank b (λ told. (g.met.A.Bank.tells_both told.0, g.met.B.Bank.tells_both told.1)) c.args.good c.args.self.now c.loop-at.self c.copy_piece.new.self c.loop-at.invariant.copies c.copy_piece.ensures.copies
+pub returns-in-Ok-Stopped : goal.returns-in-Ok-Stopped
+returns-in-Ok-Stopped g c = record {
+  done = λ is. absurd (cc is);
+  copies = copies_twice g.A.Bank g.B.Bank (λ told. (g.met.A.Bank.tells_both told.0, g.met.B.Bank.tells_both told.1)) c.args.good c.args.self.now c.loop-at.self c.copy_piece.new.self c.loop-at.invariant.copies c.copy_piece.ensures.copies;
+  ends = search rules;
+}
 
-pub returns-in-Err-clause-copies : goal.returns-in-Err-clause-copies
-returns-in-Err-clause-copies g c =
-    let b = g.B.Bank in
-    copies_twice g.A.Bank b (λ told. (g.met.A.Bank.tells_both told.0, g.met.B.Bank.tells_both told.1)) c.args.good c.args.self.now c.loop-at.self c.copy_piece.new.self c.loop-at.invariant.copies c.copy_piece.ensures.copies
+pub returns-in-Err : goal.returns-in-Err
+returns-in-Err g c = record {
+  done = λ is. absurd (cc is);
+  copies = copies_twice g.A.Bank g.B.Bank (λ told. (g.met.A.Bank.tells_both told.0, g.met.B.Bank.tells_both told.1)) c.args.good c.args.self.now c.loop-at.self c.copy_piece.new.self c.loop-at.invariant.copies c.copy_piece.ensures.copies;
+  ends = search rules;
+}

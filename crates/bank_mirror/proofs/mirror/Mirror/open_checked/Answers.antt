@@ -8,20 +8,21 @@ use Rattle.bank_mirror.proofs.mirror.Mirror.open_checked.Goals as goal
 
 pub made-requires : goal.made-requires
 made-requires g c =
-    IfOk-weaker c.open_checked-opened.result _ _ (λ o opens. is_mirror g.A.Bank g.B.Bank c.make-banks.result c.open_checked-opened.new.self c.args.first c.args.second c.make-banks.ensures o c.open_checked-opened.ensures.holds.goes_on opens.held opens.excuse) c.open_checked-opened.ensures.opened
+    let ends = c.open_checked-opened.ensures.ends in
+    IfOk-weaker c.open_checked-opened.result _ _ (λ o opens. is_mirror g.A.Bank g.B.Bank c.make-banks.result c.open_checked-opened.new.self c.args.first c.args.second c.make-banks.ensures o ends.holds.goes_on opens.held opens.excuse) ends.opened
 
-pub returns-clause-ends : goal.returns-clause-ends
-returns-clause-ends g c = made_as_one g.A.Bank g.B.Bank c.make-banks.result c.open_checked-opened.new.self c.args.first c.args.second c.make-banks.ensures c.open_checked-opened.result c.made.result c.made.ensures c.open_checked-opened.ensures.holds
-
-pub returns-clause-opened : goal.returns-clause-opened
-returns-clause-opened g c =
-    made_ok g.A.Bank g.B.Bank c.make-banks.result c.open_checked-opened.new.self c.args.first c.args.second c.make-banks.ensures c.open_checked-opened.result c.made.result c.made.ensures
-    (λ opening m. Opens g.A.Bank g.B.Bank (is_stale (length (g.A.Bank.now opening.0)) (g.B.Bank.now opening.1)) opening m.pair m.in_use m.mark_failed) c.open_checked-opened.ensures.opened
-
-pub returns-clause-keeps : goal.returns-clause-keeps
-returns-clause-keeps g c =
-    made_ok g.A.Bank g.B.Bank c.make-banks.result c.open_checked-opened.new.self c.args.first c.args.second c.make-banks.ensures c.open_checked-opened.result c.made.result c.made.ensures
-    (λ opening m. BothTell g.A.Bank g.B.Bank → loses_store c.args.live_mark.now (g.A.Bank.now opening.0) (g.B.Bank.now opening.1) ≡ false) c.open_checked-opened.ensures.keeps
-
-pub returns-clause-failed : goal.returns-clause-failed
-returns-clause-failed g c = made_err g.A.Bank g.B.Bank c.make-banks.result c.open_checked-opened.new.self c.args.first c.args.second c.make-banks.ensures c.open_checked-opened.result c.made.result c.made.ensures (CheckFails g.A.Bank g.B.Bank c.args.live_mark.now) c.open_checked-opened.ensures.failed
+pub returns : goal.returns
+returns g c =
+    let a = g.A.Bank in
+    let b = g.B.Bank in
+    let made = c.open_checked-opened in
+    record {
+      opens = record {
+        ends = made_as_one a b c.make-banks.result made.new.self c.args.first c.args.second c.make-banks.ensures made.result c.made.result c.made.ensures made.ensures.ends.holds;
+        opened = made_ok a b c.make-banks.result made.new.self c.args.first c.args.second c.make-banks.ensures made.result c.made.result c.made.ensures
+            (λ opening m. Opens a b (is_stale (length (a.now opening.0)) (b.now opening.1)) opening m.pair m.in_use m.mark_failed) made.ensures.ends.opened;
+        keeps = made_ok a b c.make-banks.result made.new.self c.args.first c.args.second c.make-banks.ensures made.result c.made.result c.made.ensures
+            (λ opening m. BothTell a b → loses_store c.args.live_mark.now (a.now opening.0) (b.now opening.1) ≡ false) made.ensures.keeps;
+        failed = made_err a b c.make-banks.result made.new.self c.args.first c.args.second c.make-banks.ensures made.result c.made.result c.made.ensures (CheckFails a b c.args.live_mark.now) made.ensures.ends.failed;
+      };
+    }
