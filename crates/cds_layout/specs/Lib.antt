@@ -8,3 +8,4 @@ pub mod Lines
 pub mod Fronts
 pub mod Order
 pub mod Looks
+pub mod Laws

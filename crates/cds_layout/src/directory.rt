@@ -4,7 +4,7 @@ ghost use Rattle.std.specs.Prelude.{◌≡◌, ◌+◌, ◌<◌, ℕ, None, leng
 ghost use Rattle.std.specs.List.{list_all};
 ghost use Rattle.std.specs.Option.{option_copied};
 ghost use Rattle.tbl_kinds.specs.Places.{are_apart};
-ghost use Rattle.tbl_kinds.specs.StoreSteps.{same_kind, same_block};
+ghost use Rattle.tbl_kinds.specs.StoreSteps.{same_block};
 ghost use Rattle.cds_layout.specs.Entries.{slot_count, gate_at};
 ghost use Rattle.cds_layout.specs.Images.{shown_in};
 ghost use Rattle.cds_layout.specs.Directory.{directory_len, is_live, is_first_version, agree, agrees_at, stated, counted, directory_to, directory_of};
@@ -16,7 +16,7 @@ use crate::places::{
 use crate::turns::{Place, Turns};
 use std::alloc::{AllocError, Global};
 use std::marker::Model;
-use tbl_kinds::{Block, BlockKind, Memory};
+use tbl_kinds::{Block, Memory};
 
 /// How many slots there are.
 const SLOT_COUNT: usize = SLOTS as usize;
@@ -86,17 +86,11 @@ fn are_apart(a: &Block, b: &Block) -> bool
     a_end <= u64::from(b.offset) || b_end <= u64::from(a.offset)
 }
 
-fn same_kind(a: BlockKind, b: BlockKind) -> bool
-    ensures { result ≡ same_kind a b }
-{
-    a == b
-}
-
 /// Whether two blocks have one kind and one name.
 fn same_block(a: &Block, b: &Block) -> bool
     ensures { result ≡ same_block a.now b.now }
 {
-    same_kind(a.kind, b.kind) && a.name.bytes() == b.name.bytes()
+    a.kind == b.kind && a.name.bytes() == b.name.bytes()
 }
 
 /// Whether two blocks can be there together.
