@@ -11,7 +11,7 @@ use std::process::ExitCode;
 use tbl_adapters::{StandardInput, StandardOutput};
 use tbl_kinds::{Bytes, Memory};
 use tbl_outside::{Bank, Sink, Source};
-use tbl_stream::serve;
+use tbl_stream::{Service, serve};
 
 /// What `--help` answers.
 const HELP: &str = "tbl_serve: the cFE table service, for as long as records come
@@ -64,7 +64,8 @@ fn play<S: Source, K: Sink, B: Bank>(
     requires { bank_size ≤ B.size bank }
 {
     let kit = shipped_entries(alloc)?;
-    let (status, _bank) = serve(alloc, words, source, sink, bank, kit);
+    let service = Service { alloc, bank, kit };
+    let (status, _bank) = serve(words, source, sink, service);
     Ok(status)
 }
 

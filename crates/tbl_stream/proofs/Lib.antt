@@ -10,3 +10,5 @@ pub mod TellingLemmas
 pub mod ServingLemmas
 pub mod FailureLemmas
 pub mod WordsLemmas
+pub mod StandingLemmas
+pub mod ReportLemmas

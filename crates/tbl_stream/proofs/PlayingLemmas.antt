@@ -11,9 +11,11 @@ use Rattle.tbl_outside.specs.declared.bank.Bank.{Ghosts}
 use Rattle.tbl_session.specs.Trouble.{EndsInBoot}
 use Rattle.tbl_stream.specs.Places.{place_of, told_from}
 use Rattle.tbl_stream.specs.Playing.{Moment, Goes, Plays, PlaysOf}
-use Rattle.tbl_stream.specs.Standing.{TellsFull, IsWritten, IsCutShort, TellsWritten, TellsCause, TellsBoot, IsQuiet}
+use Rattle.tbl_stream.specs.Standing.{TellsFull, IsWritten, IsCutShort, Way, all_written, not_taken, not_spelled, way_of, WrittenBy, TellsWritten, TellsCause, TellsBoot, IsQuiet}
 use Rattle.tbl_stream.specs.declared.standing.Standing.{Standing}
-use Rattle.tbl_stream.specs.declared.standing.Standing.TheVariants.{Open, Bad, Full, BootFault, BootStopped, SinkFailed, Memory, Unwritten}
+use Rattle.tbl_stream.specs.declared.standing.Standing.TheVariants.{Open, Bad, TooMany, Full, BootFault, BootStopped, SinkFailed, Memory, Unwritten}
+use Rattle.tbl_stream.specs.Limits.{and_more}
+use Rattle.tbl_stream.proofs.StandingLemmas.{by_quiet, and_none, and_on}
 use Rattle.tbl_stream.proofs.GoingLemmas.{goes_none, goes_on}
 use Rattle.tbl_stream.proofs.Rounds.{same_on, place_on, told_same, told_append, each_append, joined_append, stream_on}
 
@@ -43,15 +45,10 @@ cut_on p q xs ys a b c same w cut =
           ∙ ap (λ n. told_from p (xs ++ cut.front) ++ take cut.count (entry_bytes n cut.last)) at);
     }
 
-tells_on : (standing : Standing) (p q : ℕ) (xs ys : List Entry) (a b c : Option (List ℕ)) → place_of q ≡ place_of (p + length xs) → IsWritten p xs a b → TellsWritten standing q ys b c → TellsWritten standing p (xs ++ ys) a c
-tells_on Open p q xs ys a b c same w v = written_on p q xs ys a b c same w v
-tells_on Bad p q xs ys a b c same w v = written_on p q xs ys a b c same w v
-tells_on Full p q xs ys a b c same w v = written_on p q xs ys a b c same w v
-tells_on BootFault p q xs ys a b c same w v = written_on p q xs ys a b c same w v
-tells_on BootStopped p q xs ys a b c same w v = written_on p q xs ys a b c same w v
-tells_on Memory p q xs ys a b c same w v = written_on p q xs ys a b c same w v
-tells_on SinkFailed p q xs ys a b c same w v = cut_on p q xs ys a b c same w v
-tells_on Unwritten p q xs ys a b c same w v = cut_on p q xs ys a b c same w v
+tells_on : (way : Way) (p q : ℕ) (xs ys : List Entry) (a b c : Option (List ℕ)) → place_of q ≡ place_of (p + length xs) → IsWritten p xs a b → WrittenBy way q ys b c → WrittenBy way p (xs ++ ys) a c
+tells_on all_written p q xs ys a b c same w v = written_on p q xs ys a b c same w v
+tells_on not_taken p q xs ys a b c same w v = cut_on p q xs ys a b c same w v
+tells_on not_spelled p q xs ys a b c same w v = cut_on p q xs ys a b c same w v
 
 -- ---- boots
 
@@ -61,6 +58,7 @@ boot_later stopped xs ys boot = (xs ++ boot.0, boot.1, ap (λ (es : List Entry).
 boot_on : (standing : Standing) (ended : Bool) (xs ys : List Entry) → TellsBoot standing ended ys → TellsBoot standing ended (xs ++ ys)
 boot_on Open ended xs ys boot = boot
 boot_on Bad ended xs ys boot = boot
+boot_on TooMany ended xs ys boot = boot
 boot_on Full ended xs ys boot = boot
 boot_on Memory ended xs ys boot = boot
 boot_on BootFault ended xs ys boot = boot_later false xs ys boot
@@ -71,44 +69,24 @@ boot_on Unwritten ended xs ys boot = tt
 -- ---- one stretch after another
 
 nothing_told : (standing : Standing) (place : ℕ) (taken : Option (List ℕ)) → IsQuiet standing → TellsWritten standing place [] taken taken
-nothing_told Open place taken is = sym (append_known-nil taken)
-nothing_told Bad place taken is = sym (append_known-nil taken)
-nothing_told Full place taken is = sym (append_known-nil taken)
-nothing_told Memory place taken is = sym (append_known-nil taken)
-nothing_told BootFault place taken is = absurd is
-nothing_told BootStopped place taken is = absurd is
-nothing_told SinkFailed place taken is = absurd is
-nothing_told Unwritten place taken is = absurd is
+nothing_told standing place taken is = let none = sym (append_known-nil taken) in by_quiet (λ (s : Standing). TellsWritten s place [] taken taken) standing is none none none none none
 
 nothing_failed : (standing : Standing) (count : ℕ) → IsQuiet standing → TellsCause standing count count
-nothing_failed Open count is = refl
-nothing_failed Bad count is = refl
-nothing_failed Full count is = refl
-nothing_failed Memory count is = refl
-nothing_failed BootFault count is = absurd is
-nothing_failed BootStopped count is = absurd is
-nothing_failed SinkFailed count is = absurd is
-nothing_failed Unwritten count is = absurd is
+nothing_failed standing count is = by_quiet (λ (s : Standing). TellsCause s count count) standing is refl refl refl refl refl
 
 no_boot : (standing : Standing) (ended : Bool) → IsQuiet standing → ended ≡ false → TellsBoot standing ended []
-no_boot Open ended is live = live
-no_boot Bad ended is live = live
-no_boot Full ended is live = live
-no_boot Memory ended is live = live
-no_boot BootFault ended is live = absurd is
-no_boot BootStopped ended is live = absurd is
-no_boot SinkFailed ended is live = absurd is
-no_boot Unwritten ended is live = absurd is
+no_boot standing ended is live = by_quiet (λ (s : Standing). TellsBoot s ended []) standing is live live live live live
 
 module _ {B C : Type 0} (g : Ghosts B) (verdict : C → List ℕ → ℤ) where
   -- the engine at most counted its images again
-  pub plays_nothing : (standing : Standing) (old new : Moment B C) → IsQuiet standing → Goes g verdict old.played.engine new.played.engine [] → new.played.place ≡ old.played.place → new.played.offset ≡ old.played.offset
+  pub plays_nothing : (standing : Standing) (old new : Moment B C) → IsQuiet standing → Goes g verdict old.played.engine new.played.engine [] → new.played.place ≡ old.played.place → new.played.offset ≡ old.played.offset → new.played.left ≡ old.played.left
       → new.taken ≡ old.taken → new.unwritten ≡ old.unwritten → new.played.engine.state.ended ≡ false → Plays g verdict standing old new []
-  plays_nothing standing old new quiet goes place offset taken unwritten live = record {
+  plays_nothing standing old new quiet goes place offset left taken unwritten live = record {
     goes = goes;
     each = tt;
     place = ap place_of (place ∙ omega arith);
     offset = ap (λ n. n % 2 ^ 32) (offset ∙ omega arith);
+    left = sym left ∙ and_none new.played.left;
     written = subst (λ (t : Option (List ℕ)). TellsWritten standing old.played.place [] old.taken t) (sym taken) (nothing_told standing old.played.place old.taken quiet);
     cause = subst (λ n. TellsCause standing old.unwritten n) (sym unwritten) (nothing_failed standing old.unwritten quiet);
     boot = no_boot standing new.played.engine.state.ended quiet live;
@@ -116,7 +94,7 @@ module _ {B C : Type 0} (g : Ghosts B) (verdict : C → List ℕ → ℤ) where
   }
 
   pub plays_none : (standing : Standing) (m : Moment B C) → IsQuiet standing → m.played.engine.state.ended ≡ false → Plays g verdict standing m m []
-  plays_none standing m quiet live = plays_nothing standing m m quiet (goes_none g verdict m.played.engine) refl refl refl refl live
+  plays_none standing m quiet live = plays_nothing standing m m quiet (goes_none g verdict m.played.engine) refl refl refl refl refl live
 
   pub plays_on : (standing : Standing) (a b c : Moment B C) (xs ys : List Entry) → Plays g verdict Open a b xs → Plays g verdict standing b c ys → Plays g verdict standing a c (xs ++ ys)
   plays_on standing a b c xs ys p q = record {
@@ -126,7 +104,8 @@ module _ {B C : Type 0} (g : Ghosts B) (verdict : C → List ℕ → ℤ) where
     offset =
         q.offset ∙ same_on (2 ^ 32) b.played.offset (a.played.offset + length (joined (pairs_of xs))) (length (joined (pairs_of ys))) p.offset
         ∙ ap (λ n. n % 2 ^ 32) (omega (arith, length-append (joined (pairs_of xs)) (joined (pairs_of ys)), ap (λ (s : List ℕ). length s) (joined_append xs ys)));
-    written = tells_on standing a.played.place b.played.place xs ys a.taken b.taken c.taken p.place p.written q.written;
+    left = subst (λ n. a.played.left ≡ and_more n c.played.left) (sym (length-append xs ys)) (and_on (length xs) (length ys) a.played.left b.played.left c.played.left p.left q.left);
+    written = tells_on (way_of standing) a.played.place b.played.place xs ys a.taken b.taken c.taken p.place p.written q.written;
     cause = subst (λ n. TellsCause standing n c.unwritten) p.cause q.cause;
     boot = boot_on standing c.played.engine.state.ended xs ys q.boot;
     count = omega (arith, p.count, q.count);

@@ -15,63 +15,38 @@ use Rattle.tbl_outside.proofs.Streams.{append_known-nil}
 use Rattle.tbl_outside.specs.declared.bank.Bank.{Ghosts}
 use Rattle.tbl_stream.specs.Places.{place_of, place_count}
 use Rattle.tbl_stream.specs.Playing.{Moment, Goes, Plays, IsEntryOf}
-use Rattle.tbl_stream.specs.Standing.{TellsFull, TellsWritten, TellsCause, TellsBoot, Leaves, IsEnding, IsStop, IsItem, IsRefusal, standing_after, first_of}
+use Rattle.tbl_stream.specs.Standing.{TellsFull, TellsWritten, TellsCause, TellsBoot, Leaves, IsEnding, IsOfInput, IsStop, IsItem, IsRefusal, standing_after, first_of}
 use Rattle.tbl_stream.specs.Writing.{Taken, Wrote}
 use Rattle.tbl_stream.specs.declared.standing.Standing.{Standing}
-use Rattle.tbl_stream.specs.declared.standing.Standing.TheVariants.{Open, Bad, Full, BootFault, BootStopped, SinkFailed, Memory, Unwritten}
+use Rattle.tbl_stream.specs.declared.standing.Standing.TheVariants.{Open, Bad, TooMany, Full, BootFault, BootStopped, SinkFailed, Memory, Unwritten}
+use Rattle.tbl_stream.specs.Limits.{and_more}
+use Rattle.tbl_stream.proofs.StandingLemmas.{by_quiet, by_stop, by_write}
 use Rattle.tbl_stream.proofs.Rounds.{joined_one}
 
 -- what a write of an entry left, after its step
 told_stop : (stop ending : Option Standing) (place : ℕ) (e : Entry) (before after : Taken) → IsEnding ending → Wrote stop (entry_bytes place e) before after → place ≡ place_of place
     → TellsWritten (standing_after (first_of stop ending)) place (e ∷ []) before.0 after.0
-told_stop None None place e before after is w round = w.0 ∙ ap (append_known before.0) (sym (append-nil (entry_bytes place e)) ∙ ap (λ n. entry_bytes n e ++ []) round)
-told_stop None (Some BootFault) place e before after is w round = w.0 ∙ ap (append_known before.0) (sym (append-nil (entry_bytes place e)) ∙ ap (λ n. entry_bytes n e ++ []) round)
-told_stop None (Some BootStopped) place e before after is w round = w.0 ∙ ap (append_known before.0) (sym (append-nil (entry_bytes place e)) ∙ ap (λ n. entry_bytes n e ++ []) round)
-told_stop None (Some Open) place e before after is w round = absurd is
-told_stop None (Some Bad) place e before after is w round = absurd is
-told_stop None (Some Full) place e before after is w round = absurd is
-told_stop None (Some SinkFailed) place e before after is w round = absurd is
-told_stop None (Some Memory) place e before after is w round = absurd is
-told_stop None (Some Unwritten) place e before after is w round = absurd is
-told_stop (Some SinkFailed) ending place e before after is w round = record {
-  front = [];
-  last = e;
-  parts = refl;
-  count = w.0.count;
-  grown = w.0.grown ∙ ap (λ n. append_known before.0 (take w.0.count (entry_bytes n e))) (round ∙ ap place_of (omega arith));
-}
-told_stop (Some Unwritten) ending place e before after is w round = record {
-  front = [];
-  last = e;
-  parts = refl;
-  count = 0;
-  grown = w.0 ∙ sym (append_known-nil before.0);
-}
-told_stop (Some Open) ending place e before after is w round = absurd w
-told_stop (Some Bad) ending place e before after is w round = absurd w
-told_stop (Some Full) ending place e before after is w round = absurd w
-told_stop (Some BootFault) ending place e before after is w round = absurd w
-told_stop (Some BootStopped) ending place e before after is w round = absurd w
-told_stop (Some Memory) ending place e before after is w round = absurd w
+told_stop stop ending place e before after is w round =
+    by_write (λ (s : Option Standing). TellsWritten (standing_after s) place (e ∷ []) before.0 after.0) stop ending (entry_bytes place e) before after is w
+    (λ w. let all = w.0 ∙ ap (append_known before.0) (sym (append-nil (entry_bytes place e)) ∙ ap (λ n. entry_bytes n e ++ []) round) in (all, all, all))
+    (λ w. record {
+      front = [];
+      last = e;
+      parts = refl;
+      count = w.0.count;
+      grown = w.0.grown ∙ ap (λ n. append_known before.0 (take w.0.count (entry_bytes n e))) (round ∙ ap place_of (omega arith));
+    })
+    (λ w. record {
+      front = [];
+      last = e;
+      parts = refl;
+      count = 0;
+      grown = w.0 ∙ sym (append_known-nil before.0);
+    })
 
 failed_stop : (stop ending : Option Standing) (piece : List ℕ) (before after : Taken) → IsEnding ending → Wrote stop piece before after → TellsCause (standing_after (first_of stop ending)) before.1 after.1
-failed_stop None None piece before after is w = w.1
-failed_stop None (Some BootFault) piece before after is w = w.1
-failed_stop None (Some BootStopped) piece before after is w = w.1
-failed_stop None (Some Open) piece before after is w = absurd is
-failed_stop None (Some Bad) piece before after is w = absurd is
-failed_stop None (Some Full) piece before after is w = absurd is
-failed_stop None (Some SinkFailed) piece before after is w = absurd is
-failed_stop None (Some Memory) piece before after is w = absurd is
-failed_stop None (Some Unwritten) piece before after is w = absurd is
-failed_stop (Some SinkFailed) ending piece before after is w = w.1
-failed_stop (Some Unwritten) ending piece before after is w = w.1
-failed_stop (Some Open) ending piece before after is w = absurd w
-failed_stop (Some Bad) ending piece before after is w = absurd w
-failed_stop (Some Full) ending piece before after is w = absurd w
-failed_stop (Some BootFault) ending piece before after is w = absurd w
-failed_stop (Some BootStopped) ending piece before after is w = absurd w
-failed_stop (Some Memory) ending piece before after is w = absurd w
+failed_stop stop ending piece before after is w =
+    by_write (λ (s : Option Standing). TellsCause (standing_after s) before.1 after.1) stop ending piece before after is w (λ w. (w.1, w.1, w.1)) (λ w. w.1) (λ w. w.1)
 
 boot_stop : (stop ending : Option Standing) (piece : List ℕ) (before after : Taken) (ended : Bool) (es : List Entry) → Wrote stop piece before after → TellsBoot (standing_after ending) ended es → TellsBoot (standing_after (first_of stop ending)) ended es
 boot_stop None ending piece before after ended es w boot = boot
@@ -79,40 +54,26 @@ boot_stop (Some SinkFailed) ending piece before after ended es w boot = tt
 boot_stop (Some Unwritten) ending piece before after ended es w boot = tt
 boot_stop (Some Open) ending piece before after ended es w boot = absurd w
 boot_stop (Some Bad) ending piece before after ended es w boot = absurd w
+boot_stop (Some TooMany) ending piece before after ended es w boot = absurd w
 boot_stop (Some Full) ending piece before after ended es w boot = absurd w
 boot_stop (Some BootFault) ending piece before after ended es w boot = absurd w
 boot_stop (Some BootStopped) ending piece before after ended es w boot = absurd w
 boot_stop (Some Memory) ending piece before after ended es w boot = absurd w
 
 pub is_stop : (stop ending : Option Standing) (piece : List ℕ) (before after : Taken) → Wrote stop piece before after → IsEnding ending → IsStop (first_of stop ending)
-is_stop None None piece before after w is = tt
-is_stop None (Some BootFault) piece before after w is = tt
-is_stop None (Some BootStopped) piece before after w is = tt
-is_stop None (Some Open) piece before after w is = absurd is
-is_stop None (Some Bad) piece before after w is = absurd is
-is_stop None (Some Full) piece before after w is = absurd is
-is_stop None (Some SinkFailed) piece before after w is = absurd is
-is_stop None (Some Memory) piece before after w is = absurd is
-is_stop None (Some Unwritten) piece before after w is = absurd is
-is_stop (Some SinkFailed) ending piece before after w is = tt
-is_stop (Some Unwritten) ending piece before after w is = tt
-is_stop (Some Open) ending piece before after w is = absurd w
-is_stop (Some Bad) ending piece before after w is = absurd w
-is_stop (Some Full) ending piece before after w is = absurd w
-is_stop (Some BootFault) ending piece before after w is = absurd w
-is_stop (Some BootStopped) ending piece before after w is = absurd w
-is_stop (Some Memory) ending piece before after w is = absurd w
+is_stop stop ending piece before after w is = by_write IsStop stop ending piece before after is w (λ w. (tt, tt, tt)) (λ w. tt) (λ w. tt)
 
 module _ {B C : Type 0} (g : Ghosts B) (verdict : C → List ℕ → ℤ) where
   pub plays_one : (stop ending : Option Standing) (old new : Moment B C) (e : Entry) (p : Pair) → pair_of e ≡ p → IsRecord p → Goes g verdict old.played.engine new.played.engine (e ∷ [])
-      → old.played.place ≡ place_of old.played.place → new.played.place ≡ place_of (old.played.place + 1) → new.played.offset ≡ (old.played.offset + length (spelling p)) % 2 ^ 32
+      → old.played.place ≡ place_of old.played.place → new.played.place ≡ place_of (old.played.place + 1) → new.played.offset ≡ (old.played.offset + length (spelling p)) % 2 ^ 32 → old.played.left ≡ and_more 1 new.played.left
       → Wrote stop (entry_bytes old.played.place e) (old.taken, old.unwritten) (new.taken, new.unwritten) → old.unwritten ≤ new.unwritten → IsEnding ending → TellsBoot (standing_after ending) new.played.engine.state.ended (e ∷ [])
       → Plays g verdict (standing_after (first_of stop ending)) old new (e ∷ [])
-  plays_one stop ending old new e p pair is_record goes round place offset wrote count is boot = record {
+  plays_one stop ending old new e p pair is_record goes round place offset left wrote count is boot = record {
     goes = goes;
     each = (subst IsRecord (sym pair) is_record, tt);
     place = ap place_of place ∙ mod-mod (old.played.place + 1) place_count;
     offset = ap (λ n. n % 2 ^ 32) offset ∙ mod-mod (old.played.offset + length (spelling p)) (2 ^ 32) ∙ ap (λ (s : List ℕ). (old.played.offset + length s) % 2 ^ 32) (sym (joined_one e p pair));
+    left = left;
     written = told_stop stop ending old.played.place e (old.taken, old.unwritten) (new.taken, new.unwritten) is wrote round;
     cause = failed_stop stop ending (entry_bytes old.played.place e) (old.taken, old.unwritten) (new.taken, new.unwritten) is wrote;
     boot = boot_stop stop ending (entry_bytes old.played.place e) (old.taken, old.unwritten) (new.taken, new.unwritten) new.played.engine.state.ended (e ∷ []) wrote boot;
@@ -121,47 +82,25 @@ module _ {B C : Type 0} (g : Ghosts B) (verdict : C → List ℕ → ℤ) where
 
 -- ---- what ends a stream with a record says nothing of what comes after it
 
-pub stop_leaves : (stop : Option Standing) (behind : List ℕ) → IsStop stop → IfSome stop (λ standing. Leaves standing behind)
-stop_leaves None behind is = tt
-stop_leaves (Some BootFault) behind is = tt
-stop_leaves (Some BootStopped) behind is = tt
-stop_leaves (Some SinkFailed) behind is = tt
-stop_leaves (Some Unwritten) behind is = tt
-stop_leaves (Some Open) behind is = absurd is
-stop_leaves (Some Bad) behind is = absurd is
-stop_leaves (Some Full) behind is = absurd is
-stop_leaves (Some Memory) behind is = absurd is
+pub stop_leaves : (stop : Option Standing) (left : Option ℕ) (behind : List ℕ) → IsStop stop → IfSome stop (λ standing. Leaves standing left behind)
+stop_leaves stop left behind is = by_stop (λ (s : Option Standing). IfSome s (λ standing. Leaves standing left behind)) stop is tt tt tt tt tt
 
 pub stop_full : (stop : Option Standing) (played : ℕ) → IsStop stop → TellsFull (standing_after stop) played
-stop_full None played is = tt
-stop_full (Some BootFault) played is = tt
-stop_full (Some BootStopped) played is = tt
-stop_full (Some SinkFailed) played is = tt
-stop_full (Some Unwritten) played is = tt
-stop_full (Some Open) played is = tt
-stop_full (Some Bad) played is = tt
-stop_full (Some Full) played is = absurd is
-stop_full (Some Memory) played is = tt
+stop_full stop played is = by_stop (λ (s : Option Standing). TellsFull (standing_after s) played) stop is tt tt tt tt tt
 
-pub refusal_leaves : (standing : Standing) (behind : List ℕ) → IsRefusal standing → Leaves standing behind
-refusal_leaves Full behind is = tt
-refusal_leaves Memory behind is = tt
-refusal_leaves Open behind is = absurd is
-refusal_leaves Bad behind is = absurd is
-refusal_leaves BootFault behind is = absurd is
-refusal_leaves BootStopped behind is = absurd is
-refusal_leaves SinkFailed behind is = absurd is
-refusal_leaves Unwritten behind is = absurd is
+pub refusal_leaves : (standing : Standing) (left : Option ℕ) (behind : List ℕ) → IsRefusal standing → Leaves standing left behind
+refusal_leaves Full left behind is = tt
+refusal_leaves Memory left behind is = tt
+refusal_leaves Open left behind is = absurd is
+refusal_leaves Bad left behind is = absurd is
+refusal_leaves TooMany left behind is = absurd is
+refusal_leaves BootFault left behind is = absurd is
+refusal_leaves BootStopped left behind is = absurd is
+refusal_leaves SinkFailed left behind is = absurd is
+refusal_leaves Unwritten left behind is = absurd is
 
-pub never_full : (standing : Standing) (played : ℕ) → standing ≢ Full → TellsFull standing played
-never_full Open played is = tt
-never_full Bad played is = tt
-never_full Full played is = absurd (is refl)
-never_full BootFault played is = tt
-never_full BootStopped played is = tt
-never_full SinkFailed played is = tt
-never_full Memory played is = tt
-never_full Unwritten played is = tt
+pub never_full : (standing : Standing) (played : ℕ) → IsOfInput standing → TellsFull standing played
+never_full standing played is = by_quiet (λ (s : Standing). s ≢ Full → TellsFull s played) standing is.0 (λ _. tt) (λ _. tt) (λ _. tt) (λ other. absurd (other refl)) (λ _. tt) is.1
 
 -- ---- a record in front of the bytes from a place on
 

@@ -1,8 +1,8 @@
 -- Numbers that go round, and the entries of a transcript whose places do.
-use Rattle.std.proofs.Common.{◌≡◌, ℕ, ◌+◌, List, [], ◌∷◌, ◌++◌, length, refl, sym, ap, ◌∙◌, append_assoc, arith}
+use Rattle.std.proofs.Common.{◌≡◌, ℕ, ◌+◌, List, [], ◌∷◌, ◌++◌, length, refl, sym, ap, subst, ◌∙◌, append_assoc, arith}
 use Rattle.std.specs.Prelude.{◌%◌}
 use Rattle.std.proofs.Math.Nat.{mod-add-mod}
-use Rattle.std.proofs.lemmas.List.{append-nil}
+use Rattle.std.proofs.lemmas.List.{append-nil, map-append}
 use Rattle.std.specs.List.{AllByRecursion}
 use Rattle.tbl_kinds.specs.Records.{Pair, IsRecord, spelling, joined}
 use Rattle.tbl_kinds.specs.Transcript.{pair_of, pairs_of, entry_bytes}
@@ -30,14 +30,19 @@ told_append place (x ∷ xs) ys =
 
 -- ---- the records of entries
 
+pub each_joined : (xs ys : List Pair) → AllByRecursion IsRecord xs → AllByRecursion IsRecord ys → AllByRecursion IsRecord (xs ++ ys)
+each_joined [] ys p q = q
+each_joined (x ∷ xs) ys p q = (p.0, each_joined xs ys p.1 q)
+
+pub joined_pairs : (xs ys : List Pair) → joined (xs ++ ys) ≡ joined xs ++ joined ys
+joined_pairs [] ys = refl
+joined_pairs (x ∷ xs) ys = ap (λ (s : List ℕ). spelling x ++ s) (joined_pairs xs ys) ∙ sym (append_assoc (spelling x) (joined xs) (joined ys))
+
 pub each_append : (xs ys : List Entry) → AllByRecursion IsRecord (pairs_of xs) → AllByRecursion IsRecord (pairs_of ys) → AllByRecursion IsRecord (pairs_of (xs ++ ys))
-each_append [] ys p q = q
-each_append (x ∷ xs) ys p q = (p.0, each_append xs ys p.1 q)
+each_append xs ys p q = subst (AllByRecursion IsRecord) (sym (map-append pair_of xs ys)) (each_joined (pairs_of xs) (pairs_of ys) p q)
 
 pub joined_append : (xs ys : List Entry) → joined (pairs_of (xs ++ ys)) ≡ joined (pairs_of xs) ++ joined (pairs_of ys)
-joined_append [] ys = refl
-joined_append (x ∷ xs) ys =
-    ap (λ (s : List ℕ). spelling (pair_of x) ++ s) (joined_append xs ys) ∙ sym (append_assoc (spelling (pair_of x)) (joined (pairs_of xs)) (joined (pairs_of ys)))
+joined_append xs ys = ap joined (map-append pair_of xs ys) ∙ joined_pairs (pairs_of xs) (pairs_of ys)
 
 pub joined_one : (e : Entry) (p : Pair) → pair_of e ≡ p → joined (pairs_of (e ∷ [])) ≡ spelling p
 joined_one e p is = append-nil (spelling (pair_of e)) ∙ ap spelling is

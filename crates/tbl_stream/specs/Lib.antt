@@ -1,10 +1,13 @@
 pub mod Places
+pub mod Limits
 pub mod Standing
 pub mod Playing
+pub mod Soundness
 pub mod Feeding
 pub mod Finishing
 pub mod Opening
 pub mod Reading
+pub mod Reports
 pub mod Serving
 pub mod Words
 pub mod Writing

@@ -12,23 +12,25 @@ use Rattle.tbl_core.specs.Service.{EngineView, IsAfter, core_of}
 use Rattle.tbl_history.specs.Serving.{Continues}
 use Rattle.tbl_outside.specs.declared.bank.Bank.{Ghosts}
 use Rattle.tbl_outside.specs.declared.stream.Sink.{Ghosts as SinkGhosts}
+use Rattle.tbl_stream.specs.Limits.{and_more}
 use Rattle.tbl_stream.specs.Places.{place_of}
 use Rattle.tbl_stream.specs.Standing.{TellsWritten, TellsCause, TellsBoot, TellsFull, IsEnding, IsRefusal, IsStop, standing_after}
 use Rattle.tbl_stream.specs.declared.standing.Standing.{Standing}
 
--- the engine, the place of the next entry in the transcript, and how many bytes the records have that were played
+-- the engine, the place of the next entry in the transcript, how many bytes the records have that were played, and how many may follow
 pub record Played (B C : Type 0) : Type 0 where
   pub engine : EngineView B C
   pub place : ℕ
   pub offset : ℕ
+  pub left : Option ℕ
 
 -- a further record may be played
 abbrev pub IsLive : {B C : Type 0} → Played B C → Type 0
 IsLive played = played.engine.state.ended ≡ false
 
 -- nothing was played of the stream, whatever the engine had played before
-abbrev pub unplayed : {B C : Type 0} → EngineView B C → Played B C
-unplayed engine = record { engine = engine; place = place_of engine.played; offset = 0 }
+abbrev pub unplayed : {B C : Type 0} → EngineView B C → Option ℕ → Played B C
+unplayed engine limit = record { engine = engine; place = place_of engine.played; offset = 0; left = limit }
 
 -- and the bytes after those records that were fed
 pub record Streaming (B C : Type 0) : Type 0 where
@@ -59,6 +61,7 @@ pub record Plays {B C : Type 0} (g : Ghosts B) (verdict : C → List ℕ → ℤ
   pub each : AllByRecursion IsRecord (pairs_of entries)
   pub place : place_of new.played.place ≡ place_of (old.played.place + length entries)
   pub offset : new.played.offset % 2 ^ 32 ≡ (old.played.offset + length (joined (pairs_of entries))) % 2 ^ 32
+  pub left : old.played.left ≡ and_more (length entries) new.played.left
   pub written : TellsWritten standing old.played.place entries old.taken new.taken
   pub cause : TellsCause standing old.unwritten new.unwritten
   pub boot : TellsBoot standing new.played.engine.state.ended entries

@@ -1,22 +1,23 @@
 //! Plays whole records at the front of bytes, and writes each entry before the next record is looked for.
 
-ghost use Rattle.std.specs.Prelude.{◌≡◌, ◌≢◌, ◌+◌, ◌%◌, ◌^◌, ◌<◌, ◌≤◌, length, drop, IfOk, IfErr, IfSome, MatchOption};
+ghost use Rattle.std.specs.Prelude.{◌≡◌, ◌+◌, ◌%◌, ◌^◌, ◌<◌, ◌≤◌, false, length, drop, IfOk, IfErr, IfSome, MatchOption};
 ghost use Rattle.tbl_kinds.specs.Records.{IsRecord, spelling};
 ghost use Rattle.tbl_stream.specs.Places.{place_of};
-ghost use Rattle.tbl_stream.specs.Finishing.{WritesEnd, end_at};
+ghost use Rattle.tbl_stream.specs.Limits.{and_more, is_spent};
+ghost use Rattle.tbl_stream.specs.Finishing.{FinishesAs, end_at};
 ghost use Rattle.tbl_stream.specs.Playing.{IsLive, PlaysOf, PlaysRecord, moment, unplayed};
-ghost use Rattle.tbl_stream.specs.Standing.{Leaves, IsItem, IsQuiet, standing_after};
+ghost use Rattle.tbl_stream.specs.Standing.{Leaves, standing_after};
 ghost use Rattle.tbl_stream.specs.Writing.{taken_of};
-ghost use Rattle.tbl_stream.specs.declared.standing.Standing.TheVariants.{Full};
 
+use crate::finding::next_item;
+use crate::finishing::finish;
 use crate::standing::Standing;
 use crate::stepping::{answer, first_stop};
-use crate::writing::{write, write_end};
-use session_records::{Next, next_record};
+use crate::writing::write;
 use std::alloc::Global;
 use std::marker::Model;
 use tbl_core::Engine;
-use tbl_kinds::{Actor, Memory, Request};
+use tbl_kinds::{Actor, Request};
 use tbl_outside::{Bank, Sink, Validator};
 
 /// How many places there are: the one after FFFFFFFE is 0 again, since FFFFFFFF begins the end record.
@@ -40,20 +41,14 @@ fn next_offset(offset: u32, used: usize) -> u32
     ((u64::from(offset) + used as u64) % (1 << 32)) as u32
 }
 
-/// The record at the front of bytes: its actor, and how many bytes it has. Its request is written to `request`. An Err gives the standing
-/// of the stream if no record is whole, or if memory ran out for its request.
-fn next_item(alloc: Global, bytes: &[u8], request: &mut Request) -> Result<(Actor, usize), Standing>
-    ensures item { IfOk result (λ found. IsItem (record { actor = found.0; request = request.new }) found.1 bytes.now) }
-    ensures quiet { IfErr result IsQuiet }
-    ensures leaves { IfErr result (λ standing. Leaves standing bytes.now) }
-    ensures room { IfErr result (λ standing. standing ≢ Full) }
+/// How many records may follow after one more.
+fn one_less(left: Option<u32>) -> Option<u32>
+    requires { is_spent left ≡ false }
+    ensures { left ≡ and_more 1 result }
 {
-    match next_record(alloc, bytes, request) {
-        Err(Memory) => Err(Standing::Memory),
-        Ok(Next::End) => Err(Standing::Open),
-        Ok(Next::Short) => Err(Standing::Open),
-        Ok(Next::Bad) => Err(Standing::Bad),
-        Ok(Next::Item { actor, used }) => Ok((actor, used)),
+    match left {
+        None => None,
+        Some(count) => Some(count - 1),
     }
 }
 
@@ -66,6 +61,8 @@ pub(crate) struct Playback<B: Bank, C: Validator> {
     place: u32,
     /// The number of bytes of the records that were played, in four bytes.
     offset: u32,
+    /// How many records may still be played; None if there is no limit.
+    left: Option<u32>,
     /// Room for the spelling of one entry.
     out: Vec<u8>,
 }
@@ -78,15 +75,19 @@ impl<B: Bank, C: Validator> Model for Playback<B, C> {
     ghost use Rattle.std.specs.Prelude.{◌<◌, ◌^◌};
     ghost use Rattle.tbl_stream.specs.Places.{place_count};
 
-    ghost view = { λ p. record { engine = p.engine; place = p.place; offset = p.offset } };
+    ghost view = { λ p. record { engine = p.engine; place = p.place; offset = p.offset; left = p.left } };
 
     ghost invariant = { λ p. p.place < place_count × p.offset < 2 ^ 32 };
 }
 
 impl<B: Bank, C: Validator> Playback<B, C> {
-    /// A stream before anything was played. An error gives the engine back if memory ran out.
-    pub(crate) fn make(alloc: Global, engine: Engine<B, C>) -> Result<Playback<B, C>, Engine<B, C>>
-        ensures ok { IfOk result (λ p. p ≡ unplayed engine) }
+    /// A stream before anything was played, of no more records than the limit. An error gives the engine back if memory ran out.
+    pub(crate) fn make(
+        alloc: Global,
+        engine: Engine<B, C>,
+        limit: Option<u32>,
+    ) -> Result<Playback<B, C>, Engine<B, C>>
+        ensures ok { IfOk result (λ p. p ≡ unplayed engine limit) }
         ensures err { IfErr result (λ back. back ≡ engine) }
     {
         let Ok(out) = Vec::with_capacity(alloc, SHORT_SPELLING) else {
@@ -98,6 +99,7 @@ impl<B: Bank, C: Validator> Playback<B, C> {
             engine,
             place,
             offset: 0,
+            left: limit,
             out,
         })
     }
@@ -121,12 +123,14 @@ impl<B: Bank, C: Validator> Playback<B, C> {
         requires is_record { IsRecord (record { actor = actor; request = request }) }
         requires used { used ≡ length (spelling (record { actor = actor; request = request })) }
         requires live { IsLive self.old }
+        requires follows { is_spent self.old.left ≡ false }
         ensures { PlaysRecord B.Bank C.verdict (moment K.Sink self.old sink.old) (moment K.Sink self.new sink.new) (record { actor = actor; request = request }) result }
     {
         let (entry, ending) = answer(&mut self.engine, actor, request)?;
         let stop = write(&mut self.out, self.place, &entry, sink);
         self.place = next_place(self.place);
         self.offset = next_offset(self.offset, used);
+        self.left = one_less(self.left);
         Ok(first_stop(stop, ending))
     }
 
@@ -136,11 +140,11 @@ impl<B: Bank, C: Validator> Playback<B, C> {
         requires within { at.old ≤ length bytes.now }
         ensures within { at.new ≤ length bytes.now }
         ensures further { MatchOption result (at.old < at.new) (λ _. at.old ≤ at.new) }
-        ensures leaves { IfSome result (λ standing. Leaves standing (drop at.new bytes.now)) }
+        ensures leaves { IfSome result (λ standing. Leaves standing self.new.left (drop at.new bytes.now)) }
         ensures plays { PlaysOf B.Bank C.verdict (standing_after result) (moment K.Sink self.old sink.old) (moment K.Sink self.new sink.new) (drop at.old bytes.now) (drop at.new bytes.now) }
     {
         let mut request = Request::Exit;
-        match next_item(self.alloc, &bytes[*at..], &mut request) {
+        match next_item(self.alloc, self.left, &bytes[*at..], &mut request) {
             Err(standing) => Some(standing),
             Ok((actor, used)) => match self.play_record(actor, request, used, sink) {
                 Err(standing) => Some(standing),
@@ -163,7 +167,7 @@ impl<B: Bank, C: Validator> Playback<B, C> {
         requires within { at.old ≤ length bytes.now }
         ensures within { at.new ≤ length bytes.now }
         ensures further { at.old ≤ at.new }
-        ensures leaves { Leaves result (drop at.new bytes.now) }
+        ensures leaves { Leaves result self.new.left (drop at.new bytes.now) }
         ensures plays { PlaysOf B.Bank C.verdict result (moment K.Sink self.old sink.old) (moment K.Sink self.new sink.new) (drop at.old bytes.now) (drop at.new bytes.now) }
     {
         'records: loop {
@@ -173,11 +177,18 @@ impl<B: Bank, C: Validator> Playback<B, C> {
         }
     }
 
-    /// Writes the end record, and answers this status, or that the sink failed.
-    pub(crate) fn tell_end<K: Sink>(&self, status: u8, sink: &mut K) -> u8
-        ensures ends { WritesEnd status result (end_at status self.now) (taken_of K.Sink sink.old) (taken_of K.Sink sink.new) }
+    /// Writes the end record, unless an entry before it wasn't written whole, and answers the status of the stream.
+    pub(crate) fn finish<K: Sink>(
+        &self,
+        standing: Standing,
+        read_failed: bool,
+        is_whole: bool,
+        sink: &mut K,
+    ) -> u8
+        ensures ends { FinishesAs standing read_failed is_whole result (end_at self.now) (taken_of K.Sink sink.old) (taken_of K.Sink sink.new) }
         ensures count { K.faults sink.old ≤ K.faults sink.new }
     {
-        write_end(status, self.place, self.offset, sink)
+        let ended = (self.place, self.offset);
+        finish(standing, read_failed, is_whole, ended, sink)
     }
 }

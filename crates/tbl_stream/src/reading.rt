@@ -2,13 +2,13 @@
 
 ghost use Rattle.std.specs.Prelude.{◌≡◌, Some, length};
 ghost use Rattle.tbl_session.specs.Inputs.{piece_limit};
-ghost use Rattle.tbl_stream.specs.Reading.{IsOpen, Reads, reading};
+ghost use Rattle.tbl_stream.specs.Reading.{IsOpen, Reads, ReadsFrom, reading};
 
 use crate::stream::{Fed, Stream};
 use tbl_outside::{Bank, Failed, Sink, Source, Validator};
 
 /// How many bytes are asked for at a time.
-const PIECE_LENGTH: usize = 4096;
+pub const PIECE_LENGTH: usize = 4096;
 
 /// Reads one piece of the input and feeds it; None if the stream goes on, and else whether a read failed.
 fn read_piece<B: Bank, C: Validator, S: Source, K: Sink>(
@@ -21,6 +21,7 @@ fn read_piece<B: Bank, C: Validator, S: Source, K: Sink>(
     requires room { length piece.old ≡ piece_limit }
     ensures room { length piece.new ≡ piece_limit }
     ensures reads { Reads B.Bank C.verdict result (reading S.Source K.Sink stream.old source.old sink.old) (reading S.Source K.Sink stream.new source.new sink.new) }
+    ensures source { ReadsFrom S.Source result source.old source.new }
 {
     match source.read(piece) {
         Err(Failed) => Some(true),
@@ -44,7 +45,8 @@ pub(crate) fn read_all<B: Bank, C: Validator, S: Source, K: Sink>(
     sink: &mut K,
 ) -> bool
     requires { IsOpen stream.old }
-    ensures { Reads B.Bank C.verdict (Some result) (reading S.Source K.Sink stream.old source.old sink.old) (reading S.Source K.Sink stream.new source.new sink.new) }
+    ensures reads { Reads B.Bank C.verdict (Some result) (reading S.Source K.Sink stream.old source.old sink.old) (reading S.Source K.Sink stream.new source.new sink.new) }
+    ensures source { ReadsFrom S.Source (Some result) source.old source.new }
 {
     let mut piece = [0u8; PIECE_LENGTH];
     'reads: for _reads in 0..u64::MAX {

@@ -5,11 +5,10 @@ ghost use Rattle.tbl_kinds.specs.Heads.{IsShort};
 ghost use Rattle.tbl_stream.specs.Playing.{IsLive, PlaysOf, moment, unplayed};
 ghost use Rattle.tbl_stream.specs.Standing.{Leaves, IsFront};
 ghost use Rattle.tbl_stream.specs.Writing.{taken_of};
-ghost use Rattle.tbl_stream.specs.Feeding.{answer_of, Feeds};
-ghost use Rattle.tbl_stream.specs.Finishing.{FinishesAs};
+ghost use Rattle.tbl_stream.specs.Feeding.{answer_of, Feeds, FeedsPiece};
+ghost use Rattle.tbl_stream.specs.Finishing.{FinishesAs, end_at};
 ghost use Rattle.tbl_stream.specs.declared.standing.Standing.TheVariants.{Open, Full};
 
-use crate::finishing::finish;
 use crate::playback::Playback;
 use crate::standing::Standing;
 use session_records::{bytes_lacking, drop_front};
@@ -23,8 +22,8 @@ use tbl_outside::{Bank, Sink, Validator};
 pub enum Fed {
     /// All records that are whole were played and their entries written.
     More,
-    /// The stream is over: a bad record follows those that were played, the engine has no room, a boot failed or was stopped, or the
-    /// sink failed.
+    /// The stream is over: a bad record or a byte too many follows those that were played, the engine has no room, a boot failed or was
+    /// stopped, or the sink failed.
     Over,
     /// The stream is over, since memory ran out.
     Memory,
@@ -51,19 +50,23 @@ impl<B: Bank, C: Validator> Model for Stream<B, C> {
 
     ghost view = { λ s. record { played = s.playback; rest = s.kept.items; standing = s.standing } };
 
-    ghost invariant = { λ s. (s.standing ≡ Open → IsFront s.kept.items) × (s.standing ≡ Open → s.playback.engine.state.ended ≡ false) };
+    ghost invariant = { λ s. (s.standing ≡ Open → IsFront s.playback.left s.kept.items) × (s.standing ≡ Open → s.playback.engine.state.ended ≡ false) };
 }
 
 impl<B: Bank, C: Validator> Stream<B, C> {
-    /// A stream over an engine, before anything was fed. Its first entry has the place after those that the engine has played. An Err means
-    /// out of memory, and gives the engine back.
-    pub fn make(alloc: Global, engine: Engine<B, C>) -> Result<Stream<B, C>, Engine<B, C>>
+    /// A stream over an engine, before anything was fed, of no more records than the limit, if there is one. Its first entry has the place
+    /// after those that the engine has played. An Err means out of memory, and gives the engine back.
+    pub fn make(
+        alloc: Global,
+        engine: Engine<B, C>,
+        limit: Option<u32>,
+    ) -> Result<Stream<B, C>, Engine<B, C>>
         requires live { engine.state.ended ≡ false }
-        ensures ok { IfOk result (λ stream. stream ≡ record { played = unplayed engine; rest = []; standing = Open }) }
+        ensures ok { IfOk result (λ stream. stream ≡ record { played = unplayed engine limit; rest = []; standing = Open }) }
         ensures err { IfErr result (λ back. back ≡ engine) }
     {
         Ok(Stream {
-            playback: Playback::make(alloc, engine)?,
+            playback: Playback::make(alloc, engine, limit)?,
             kept: Vec::new(alloc),
             standing: Standing::Open,
         })
@@ -75,34 +78,23 @@ impl<B: Bank, C: Validator> Stream<B, C> {
         ensures answer { result ≡ answer_of self.new.standing }
         // All that was fed is the spellings of the requests of some entries, and after them what the answer says. Whatever the engine
         // had played before, it has played that and these after it, and the sink took their spellings.
-        ensures feeds { Feeds B.Bank C.verdict self.new.standing (moment K.Sink self.old.played sink.old) (moment K.Sink self.new.played sink.new) (self.old.rest ++ piece.now) self.new.rest }
+        ensures feeds { FeedsPiece B.Bank C.verdict self.new.standing (moment K.Sink self.old.played sink.old) (moment K.Sink self.new.played sink.new) (self.old.rest ++ piece.now) self.new.rest }
         ensures kept { result ≡ Fed.More → length self.new.rest < 32836 }
     {
-        feed_fields(
-            &mut self.playback,
-            &mut self.kept,
-            &mut self.standing,
-            piece,
-            sink,
-        );
+        self.standing = play_piece(&mut self.playback, &mut self.kept, piece, sink);
         answer(self.standing)
     }
 
     /// Ends the stream: writes the end record, unless an entry before it wasn't written whole, and answers the status.
     /// The input is at its end, or a read of it failed.
     pub fn finish<K: Sink>(&mut self, read_failed: bool, sink: &mut K) -> u8
-        ensures finishes { FinishesAs self.old.standing read_failed (length self.old.rest == 0) result self.old.played (taken_of K.Sink sink.old) (taken_of K.Sink sink.new) }
+        ensures finishes { FinishesAs self.old.standing read_failed (length self.old.rest == 0) result (end_at self.old.played) (taken_of K.Sink sink.old) (taken_of K.Sink sink.new) }
         ensures same { self.new ≡ self.old }
         ensures count { K.faults sink.old ≤ K.faults sink.new }
     {
         let is_whole = self.kept.is_empty();
-        finish(
-            &mut self.playback,
-            self.standing,
-            read_failed,
-            is_whole,
-            sink,
-        )
+        self.playback
+            .finish(self.standing, read_failed, is_whole, sink)
     }
 
     /// Ends the stream as when the engine has no room.
@@ -127,27 +119,13 @@ fn answer(standing: Standing) -> Fed
     match standing {
         Standing::Open => Fed::More,
         Standing::Bad
+        | Standing::TooMany
         | Standing::Full
         | Standing::BootFault
         | Standing::BootStopped
         | Standing::SinkFailed => Fed::Over,
         Standing::Memory | Standing::Unwritten => Fed::Memory,
     }
-}
-
-/// Plays a piece, and notes the standing of the stream then.
-fn feed_fields<B: Bank, C: Validator, K: Sink>(
-    playback: &mut Playback<B, C>,
-    kept: &mut Vec<u8>,
-    standing: &mut Standing,
-    piece: &[u8],
-    sink: &mut K,
-)
-    requires live { IsLive playback.old }
-    requires begun { IsFront kept.old.items }
-    ensures { Feeds B.Bank C.verdict standing.new (moment K.Sink playback.old sink.old) (moment K.Sink playback.new sink.new) (kept.old.items ++ piece.now) kept.new.items }
-{
-    *standing = play_piece(playback, kept, piece, sink);
 }
 
 /// Completes the record whose beginning is kept, and plays what is whole after it.
@@ -158,7 +136,7 @@ fn play_piece<B: Bank, C: Validator, K: Sink>(
     sink: &mut K,
 ) -> Standing
     requires live { IsLive playback.old }
-    requires begun { IsFront kept.old.items }
+    requires begun { IsFront playback.old.left kept.old.items }
     ensures { Feeds B.Bank C.verdict result (moment K.Sink playback.old sink.old) (moment K.Sink playback.new sink.new) (kept.old.items ++ piece.now) kept.new.items }
 {
     let mut at = 0;
@@ -187,7 +165,7 @@ fn complete<B: Bank, C: Validator, K: Sink>(
     requires some { at.old < length piece.now }
     ensures within { at.new ≤ length piece.now }
     ensures further { result ≡ Open → at.old < at.new }
-    ensures leaves { Leaves result kept.new.items }
+    ensures leaves { Leaves result playback.new.left kept.new.items }
     ensures plays { PlaysOf B.Bank C.verdict result (moment K.Sink playback.old sink.old) (moment K.Sink playback.new sink.new)
         (kept.old.items ++ drop at.old piece.now) (kept.new.items ++ drop at.new piece.now) }
 {
@@ -210,7 +188,7 @@ fn play_kept<B: Bank, C: Validator, K: Sink>(
     sink: &mut K,
 ) -> Standing
     requires live { IsLive playback.old }
-    ensures leaves { Leaves result kept.new.items }
+    ensures leaves { Leaves result playback.new.left kept.new.items }
     ensures plays { PlaysOf B.Bank C.verdict result (moment K.Sink playback.old sink.old) (moment K.Sink playback.new sink.new) kept.old.items kept.new.items }
 {
     let mut used = 0;

@@ -10,6 +10,7 @@ returns-in-Ok-clause-fresh g c =
       rest = refl;
       place = ap place_of (sym begins.after.played);
       offset = refl;
+      left = refl;
       live = begins.live;
       after = begins.after;
     })
@@ -23,6 +24,6 @@ returns-in-Err-clause-err g c =
     let begins = c.in_ok-start.ensures.ok in
     record {
       crash = λ told. rw (c.end.ensures.bank, c.in-Err.ensures.err) (begins.crash told);
-      counts = rw (c.end.ensures.bank, c.in-Err.ensures.err) begins.counts;
+      counted = rw (c.end.ensures.bank, c.in-Err.ensures.err) begins.counts;
       room = search rules;
     }

@@ -1,4 +1,4 @@
-use Rattle.std.proofs.Common.{[], sym, ap, subst, ◌∙◌, arith, inl, ⊎_elim, rules}
+use Rattle.std.proofs.Common.{[], sym, ap, subst, ◌∙◌, arith, inl, ⊎_elim}
 use Rattle.std.specs.Prelude.{take}
 use Rattle.std.proofs.lemmas.List.{length-take}
 use Rattle.std.specs.Io.KnownBytes.{prepend_known}
@@ -16,7 +16,6 @@ returns-in-Err-clause-reads g c =
       fed = reads_at g.B.Bank g.C.Validator.verdict c.args.stream.now.standing _ c.args.stream.now.rest is_open.standing_is is_open.begun is_open.live;
       ends = record { ended = λ is e. absurd cc; cut = λ e. is_open.standing_is };
       full = λ is. absurd (let other = is_open.standing_is in cc);
-      cause = search rules;
     }
 
 pub returns-then-count-eq0-clause-reads : goal.returns-then-count-eq0-clause-reads
@@ -28,7 +27,6 @@ returns-then-count-eq0-clause-reads g c =
       fed = reads_at g.B.Bank g.C.Validator.verdict c.args.stream.now.standing _ c.args.stream.now.rest is_open.standing_is is_open.begun is_open.live;
       ends = record { ended = λ is e. c.in-Ok.ensures.end c.if-count-eq0.true (omega (arith, c.requires.room)); cut = λ e. absurd cc };
       full = λ is. absurd (let other = is_open.standing_is in cc);
-      cause = search rules;
     }
 
 pub returns-in-Over-clause-reads : goal.returns-in-Over-clause-reads
@@ -39,10 +37,9 @@ returns-in-Over-clause-reads g c =
     record {
       read = piece;
       came = c.in-Ok.ensures.moved;
-      fed = reads_piece g.B.Bank g.C.Validator.verdict stream.standing _ _ c.args.stream.now.rest piece stream.rest c.requires.is_open.begun (omega (arith, length-take c.in-Ok.count c.read.new.into, c.in-Ok.ensures.fits, c.requires.room)) c.feed.ensures.feeds;
+      fed = reads_piece g.B.Bank g.C.Validator.verdict stream.standing _ _ c.args.stream.now.rest piece stream.rest c.requires.is_open.begun (omega (arith, length-take c.in-Ok.count c.read.new.into, c.in-Ok.ensures.fits, c.requires.room)) c.feed.ensures.feeds.feeds;
       ends = record { ended = λ is. absurd (over is); cut = λ e. absurd cc };
-      full = λ is. inl (subst (λ standing. TellsFull standing stream.played.engine.played) is c.feed.ensures.feeds.played.full);
-      cause = search rules;
+      full = λ is. inl (subst (λ standing. TellsFull standing stream.played.engine.played) is c.feed.ensures.feeds.feeds.played.full);
     }
 
 pub returns-in-More-clause-reads : goal.returns-in-More-clause-reads
@@ -52,8 +49,7 @@ returns-in-More-clause-reads g c =
     record {
       read = piece;
       came = c.in-Ok.ensures.moved;
-      fed = reads_piece g.B.Bank g.C.Validator.verdict stream.standing _ _ c.args.stream.now.rest piece stream.rest c.requires.is_open.begun (omega (arith, length-take c.in-Ok.count c.read.new.into, c.in-Ok.ensures.fits, c.requires.room)) c.feed.ensures.feeds;
+      fed = reads_piece g.B.Bank g.C.Validator.verdict stream.standing _ _ c.args.stream.now.rest piece stream.rest c.requires.is_open.begun (omega (arith, length-take c.in-Ok.count c.read.new.into, c.in-Ok.ensures.fits, c.requires.room)) c.feed.ensures.feeds.feeds;
       ends = (open_answer stream.standing (sym c.in-More.is ∙ c.feed.ensures.answer), omega (arith, length-take c.in-Ok.count c.read.new.into, c.in-Ok.ensures.fits, c.if-count-eq0.false));
-      full = λ is. inl (subst (λ standing. TellsFull standing stream.played.engine.played) is c.feed.ensures.feeds.played.full);
-      cause = search rules;
+      full = λ is. inl (subst (λ standing. TellsFull standing stream.played.engine.played) is c.feed.ensures.feeds.feeds.played.full);
     }

@@ -7,7 +7,7 @@ use Rattle.tbl_stream.proofs.stream.play_piece.Given as goal
 abbrev pub invariant-completes : goal.invariant-completes
 invariant-completes g l = record {
   within : l.at ≤ length l.fn.piece;
-  begun : IsFront l.kept.items;
+  begun : IsFront l.playback.left l.kept.items;
   live : IsLive l.playback;
   plays : PlaysOf g.B.Bank g.C.Validator.verdict Open (moment g.K.Sink l.fn.playback l.fn.sink) (moment g.K.Sink l.playback l.sink) (l.fn.kept.items ++ l.fn.piece) (l.kept.items ++ drop l.at l.fn.piece);
 }

@@ -8,15 +8,15 @@ use Rattle.tbl_stream.proofs.playback.Playback.play_next.Goals as goal
 -- no record is whole
 pub returns-in-Err-clause-plays : goal.returns-in-Err-clause-plays
 returns-in-Err-clause-plays g c =
-    let none = c.in-Err.ensures in
-    plays_of_nothing g.B.Bank g.C.Validator.verdict c.in-Err.standing (moment g.K.Sink c.args.self.now c.args.sink.now) (drop c.args.at.now c.args.bytes.now) none.quiet (never_full c.in-Err.standing c.args.self.now.engine.played none.room) c.requires.live
+    let none = c.in-Err.ensures.none in
+    plays_of_nothing g.B.Bank g.C.Validator.verdict c.in-Err.standing (moment g.K.Sink c.args.self.now c.args.sink.now) (drop c.args.at.now c.args.bytes.now) none.input.0 (never_full c.in-Err.standing c.args.self.now.engine.played none.input) c.requires.live
 
 -- one wasn't played
 pub returns-in-Err-play_record-clause-plays : goal.returns-in-Err-play_record-clause-plays
 returns-in-Err-play_record-clause-plays g c = let refused = c.in-Err-play_record.ensures in record { entries = []; plays = refused.2; parts = refl; full = refused.1 }
 
 pub returns-in-Err-play_record-clause-leaves : goal.returns-in-Err-play_record-clause-leaves
-returns-in-Err-play_record-clause-leaves g c = refusal_leaves c.in-Err-play_record.standing (drop c.args.at.now c.args.bytes.now) c.in-Err-play_record.ensures.0
+returns-in-Err-play_record-clause-leaves g c = refusal_leaves c.in-Err-play_record.standing _ (drop c.args.at.now c.args.bytes.now) c.in-Err-play_record.ensures.0
 
 -- one was
 pub returns-in-Ok-play_record-clause-plays : goal.returns-in-Ok-play_record-clause-plays
@@ -36,4 +36,4 @@ returns-in-Ok-play_record-clause-further g c =
     item_some c.in-Ok-play_record.stop (record { actor = i.actor; request = c.next_item.new.request }) _ c.args.at.now i.used i.ensures.item
 
 pub returns-in-Ok-play_record-clause-leaves : goal.returns-in-Ok-play_record-clause-leaves
-returns-in-Ok-play_record-clause-leaves g c = stop_leaves c.in-Ok-play_record.stop _ c.in-Ok-play_record.ensures.0
+returns-in-Ok-play_record-clause-leaves g c = stop_leaves c.in-Ok-play_record.stop _ _ c.in-Ok-play_record.ensures.0

@@ -20,7 +20,7 @@ returns g c =
         e,
         pair,
         plays_one g.B.Bank g.C.Validator.verdict c.write-stop.result done.ending _ _ e (record { actor = c.args.actor; request = c.args.request }) pair c.requires.is_record answers.goes
-            (sym (mod-eq_of_lt c.self.invariant.0)) c.next_place-self-inside.ensures (c.next_offset-self-inside.ensures ∙ ap (λ n. (c.self.inside.offset + n) % 2 ^ 32) c.requires.used)
+            (sym (mod-eq_of_lt c.self.invariant.0)) c.next_place-self-inside.ensures (c.next_offset-self-inside.ensures ∙ ap (λ n. (c.self.inside.offset + n) % 2 ^ 32) c.requires.used) c.one_less-self-inside.ensures
             wrote c.write-stop.ensures.count answers.ending answers.boot,
       ),
     )
