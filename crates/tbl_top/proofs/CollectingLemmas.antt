@@ -1,5 +1,6 @@
 -- Records are collected from pieces of an input.
-use Rattle.std.proofs.Common.{◌≡◌, ◌≢◌, ℕ, ◌+◌, ◌-◌, ◌<◌, ◌≤◌, List, [], ◌∷◌, ◌++◌, length, replicate, take, drop, Bool, false, refl, sym, ap, subst, ◌∙◌, append_assoc, arith}
+use Rattle.std.proofs.Common.{◌≡◌, ◌≢◌, ℕ, ◌+◌, ◌-◌, ◌<◌, ◌≤◌, List, [], ◌∷◌, ◌++◌, length, replicate, Some, take, drop, Bool, false, refl, sym, ap, subst, ◌∙◌, append_assoc, arith}
+use Rattle.std.proofs.Math.Seq.{take-length}
 use Rattle.std.proofs.lemmas.List.{append-nil, length-append, length-drop, drop-drop, take-append-drop}
 use Rattle.std.specs.List.{AllByRecursion}
 use Rattle.tbl_kinds.specs.Records.{Pair, IsRecord, spelling, joined, record_limit}
@@ -8,16 +9,21 @@ use Rattle.tbl_kinds.proofs.InputLaws.{joined-snoc, each-snoc}
 use Rattle.tbl_session.specs.Actors.{actor_count}
 use Rattle.tbl_crew.specs.Scripts.{pushed}
 use Rattle.tbl_top.specs.Collecting.{Collecting, HasTaken, TakesOne, put_last, scripts_of}
-use Rattle.tbl_top.specs.Feeding.{IsKept}
+use Rattle.tbl_stream.specs.Feeding.{IsKept}
 use Rattle.tbl_session.specs.Inputs.{StopsReading}
 use Rattle.tbl_top.specs.Reading.{HasRead}
-use Rattle.tbl_top.specs.Standing.{Leaves}
-use Rattle.tbl_top.proofs.PlayingLemmas.{joined_bound, slice_is}
-use Rattle.tbl_top.proofs.FeedingLemmas.{beginning_length}
-use Rattle.tbl_top.specs.declared.playback.Standing.{Standing}
-use Rattle.tbl_top.specs.declared.playback.Standing.TheVariants.{Open, Bad, Full, BootFault, BootStopped, SinkFailed, Memory, Unwritten}
+use Rattle.tbl_stream.specs.Standing.{Leaves}
+use Rattle.tbl_stream.proofs.FeedingLemmas.{front_length}
+use Rattle.tbl_top.proofs.OffsetLemmas.{joined_bound}
+use Rattle.tbl_top.proofs.SessionLemmas.{beginning}
+use Rattle.tbl_stream.specs.declared.standing.Standing.{Standing}
+use Rattle.tbl_stream.specs.declared.standing.Standing.TheVariants.{Open}
 
 -- ---- one record more
+
+-- the slice from a place on
+slice_is : (bytes : List ℕ) (at : ℕ) → take (length bytes - at) (drop at bytes) ≡ drop at bytes
+slice_is bytes at = ap (λ n. take n (drop at bytes)) (sym (length-drop at bytes)) ∙ take-length (drop at bytes)
 
 -- the record that was read is the front of the bytes from a place on
 pub spelled_first : (p : Pair) (bytes rest : List ℕ) (at used : ℕ) → bytes ≡ rest → take used (take (length bytes - at) (drop at bytes)) ≡ spelling p → drop at rest ≡ spelling p ++ drop (at + used) rest
@@ -35,14 +41,13 @@ put_last-snoc scripts (q ∷ pairs) p = put_last-snoc (pushed scripts q) pairs p
 pub record IsTaking (fed : List ℕ) (at : ℕ) (pairs : List Pair) (c : Collecting) : Type 0 where
   pub parts : fed ≡ joined pairs ++ drop at c.rest
   pub each : AllByRecursion IsRecord pairs
-  pub few : length pairs ≤ record_limit
+  pub few : record_limit ≡ c.left + length pairs
   pub scripts : c.scripts ≡ scripts_of pairs
-  pub count : c.count ≡ length pairs
 
 -- a record more was taken
-pub takes_next : (fed : List ℕ) (at further : ℕ) (pairs : List Pair) (old new : Collecting) (one : TakesOne at further old new) → new.rest ≡ old.rest → new.count ≤ record_limit → IsTaking fed at pairs old
+pub takes_next : (fed : List ℕ) (at further : ℕ) (pairs : List Pair) (old new : Collecting) (one : TakesOne at further old new) → new.rest ≡ old.rest → IsTaking fed at pairs old
     → IsTaking fed further (pairs ++ one.pair ∷ []) new
-takes_next fed at further pairs old new one rest few t =
+takes_next fed at further pairs old new one rest t =
     let p = one.pair in
     record {
       parts = t.parts
@@ -51,35 +56,23 @@ takes_next fed at further pairs old new one rest few t =
           ∙ ap (λ (xs : List ℕ). xs ++ drop further old.rest) (sym (joined-snoc pairs p))
           ∙ ap (λ (xs : List ℕ). joined (pairs ++ p ∷ []) ++ drop further xs) (sym rest);
       each = each-snoc pairs p t.each one.is_record;
-      few = omega (arith, length-append pairs (p ∷ []), one.count, t.count);
+      few = omega (arith, length-append pairs (p ∷ []), one.left, t.few);
       scripts = one.scripts ∙ ap (λ (s : List (List Request)). pushed s p) t.scripts ∙ sym (put_last-snoc (replicate actor_count []) pairs p);
-      count = omega (arith, length-append pairs (p ∷ []), one.count, t.count);
     }
 
-keeps_all : (standing : Standing) (behind : List ℕ) → IsKept standing behind behind
-keeps_all Open behind = refl
-keeps_all Bad behind = tt
-keeps_all Full behind = tt
-keeps_all BootFault behind = tt
-keeps_all BootStopped behind = tt
-keeps_all SinkFailed behind = tt
-keeps_all Memory behind = tt
-keeps_all Unwritten behind = tt
-
 -- no record more was taken, and what was is dropped
-pub takes_last : (standing : Standing) (fed : List ℕ) (at most : ℕ) (pairs : List Pair) (c new : Collecting) → Leaves standing c.count (drop at c.rest) → length c.rest ≤ most
-    → new.scripts ≡ c.scripts → new.count ≡ c.count → new.rest ≡ drop at c.rest → IsTaking fed at pairs c
+pub takes_last : (standing : Standing) (fed : List ℕ) (at most : ℕ) (pairs : List Pair) (c new : Collecting) → Leaves standing (Some c.left) (drop at c.rest) → length c.rest ≤ most
+    → new.scripts ≡ c.scripts → new.left ≡ c.left → new.rest ≡ drop at c.rest → IsTaking fed at pairs c
     → HasTaken standing fed most pairs new
-takes_last standing fed at most pairs c new leaves near scripts count rest t = record {
+takes_last standing fed at most pairs c new leaves near scripts left rest t = record {
   behind = drop at c.rest;
   parts = t.parts;
   near = omega (arith, length-drop at c.rest);
   each = t.each;
-  few = t.few;
+  few = omega (arith, t.few, left);
   scripts = scripts ∙ t.scripts;
-  count = count ∙ t.count;
-  leaves = subst (λ (n : ℕ). Leaves standing n (drop at c.rest)) t.count leaves;
-  keeps = subst (λ (xs : List ℕ). IsKept standing (drop at c.rest) xs) (sym rest) (keeps_all standing (drop at c.rest));
+  leaves = subst (λ (n : ℕ). Leaves standing (Some n) (drop at c.rest)) (sym left) leaves;
+  keeps = λ _. rest;
 }
 
 -- ---- the whole reading
@@ -92,8 +85,8 @@ stops_behind fed last most pairs c short t = record {
   last = last;
   parts = ap (λ (xs : List ℕ). xs ++ last) t.parts;
   each = t.each;
-  few = t.few;
-  begun = t.leaves;
+  few = omega (arith, t.few);
+  begun = beginning c.left (length pairs) t.behind t.few t.leaves;
   short = short;
 }
 
@@ -103,8 +96,9 @@ pub reads_nothing : (fed : List ℕ) (most : ℕ) (pairs : List Pair) (c : Colle
 reads_nothing fed most pairs c failed at_end end t = record {
   behind = t.behind;
   parts = append-nil fed ∙ t.parts;
-  near = omega (arith, beginning_length (length pairs) t.behind t.leaves);
+  near = omega (arith, front_length (Some c.left) t.behind t.leaves);
   each = t.each;
+  left = c.left;
   few = t.few;
   leaves = t.leaves;
   keeps = t.keeps;
@@ -120,8 +114,9 @@ pub reads_last : (standing : Standing) (fed piece : List ℕ) (most : ℕ) (pair
 reads_last standing fed piece most pairs more old new at_end over short before t = record {
   behind = t.behind;
   parts = t.parts;
-  near = omega (arith, beginning_length (length pairs) before.behind before.leaves, ap length before.keeps, t.near);
+  near = omega (arith, front_length (Some old.left) before.behind before.leaves, ap length (before.keeps refl), t.near);
   each = t.each;
+  left = new.left;
   few = t.few;
   leaves = t.leaves;
   keeps = t.keeps;
@@ -133,4 +128,4 @@ reads_last standing fed piece most pairs more old new at_end over short before t
 -- how long a session can be
 pub taken_bound : (fed : List ℕ) (most : ℕ) (pairs : List Pair) (c : Collecting) → HasTaken Open fed most pairs c → length fed < 1076100000
 taken_bound fed most pairs c t =
-    omega (arith, ap length t.parts, length-append (joined pairs) t.behind, joined_bound pairs t.each, t.few, beginning_length (length pairs) t.behind t.leaves)
+    omega (arith, ap length t.parts, length-append (joined pairs) t.behind, joined_bound pairs t.each, t.few, front_length (Some c.left) t.behind t.leaves)

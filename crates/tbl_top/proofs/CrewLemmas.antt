@@ -11,13 +11,14 @@ use Rattle.tbl_crew.specs.CrewView.{TellsFault}
 use Rattle.tbl_session.specs.Actors.{part}
 use Rattle.tbl_crew.specs.Scripts.{script_of}
 use Rattle.tbl_session.specs.Orders.{RequestedBy, ByActor}
-use Rattle.tbl_top.specs.Reading.{HasRead}
 use Rattle.tbl_session.specs.Session.{IsEnded}
-use Rattle.tbl_top.specs.Feeding.{IsKept}
-use Rattle.tbl_top.specs.Playing.{IsWritten}
-use Rattle.tbl_top.specs.Standing.{Leaves, HasPlayedAll, IsOfInput, IsStop, StandsBehind, TellsBoot, TellsWhy, TellsFront, TellsCause, standing_behind}
-use Rattle.tbl_top.specs.declared.playback.Standing.{Standing}
-use Rattle.tbl_top.specs.declared.playback.Standing.TheVariants.{Open, Bad, Full, BootFault, BootStopped, SinkFailed, Memory, Unwritten}
+use Rattle.tbl_stream.specs.Standing.{CauseBy, FrontBy, HasPlayedAll, IsOfInput, IsWritten, Leaves, TellsBoot, TellsCause, Way, all_written, way_of}
+use Rattle.tbl_stream.specs.Writing.{Taken}
+use Rattle.tbl_stream.specs.declared.standing.Standing.{Standing}
+use Rattle.tbl_stream.specs.declared.standing.Standing.TheVariants.{Open, Bad, TooMany, Full, BootFault, BootStopped, SinkFailed, Memory, Unwritten}
+use Rattle.tbl_stream.proofs.StandingLemmas.{by_quiet}
+use Rattle.tbl_top.specs.Reading.{HasRead}
+use Rattle.tbl_top.specs.Telling.{IsCut, StandsBehind, TellsCrew, WroteAll, standing_behind}
 use Rattle.tbl_kinds.specs.declared.entry.Entry.{Entry}
 use Rattle.tbl_kinds.specs.declared.request.Request.{Request}
 
@@ -42,17 +43,29 @@ by_actor status fault scripts pairs entries same none played = record {
 
 -- ---- the standing of the session
 
+by_cut : (P : Standing → Type 0) (standing : Standing) → IsCut standing → P SinkFailed → P Unwritten → P standing
+by_cut P SinkFailed is a b = a
+by_cut P Unwritten is a b = b
+by_cut P Open is a b = absurd is
+by_cut P Bad is a b = absurd is
+by_cut P TooMany is a b = absurd is
+by_cut P Full is a b = absurd is
+by_cut P BootFault is a b = absurd is
+by_cut P BootStopped is a b = absurd is
+by_cut P Memory is a b = absurd is
+
 -- what was read stays what it was if a fault or a stop has precedence over it
 module _ (read : Standing) (pairs : List Pair) (kept fed : List ℕ) (failed : Bool) (at_end : Type 0) (h : HasRead read pairs kept fed failed at_end) where
-  over : (standing : Standing) → Leaves standing (length pairs) h.behind → IsKept standing h.behind kept → (standing ≢ Open) → ¬ HasPlayedAll standing → HasRead standing pairs kept fed failed at_end
-  over standing leaves keeps closed left = record {
+  over : (standing : Standing) → Leaves standing (Some h.left) h.behind → (standing ≢ Open) → ¬ HasPlayedAll standing → HasRead standing pairs kept fed failed at_end
+  over standing leaves closed left = record {
     behind = h.behind;
     parts = h.parts;
     near = h.near;
     each = h.each;
+    left = h.left;
     few = h.few;
     leaves = leaves;
-    keeps = keeps;
+    keeps = λ is. absurd (closed is);
     ended = λ is. absurd (closed is);
     cut = λ _ all. absurd (left all);
     stops = h.stops;
@@ -60,23 +73,13 @@ module _ (read : Standing) (pairs : List Pair) (kept fed : List ℕ) (failed : B
 
   behind_fault : (fault : Option StepFault) → HasRead (standing_behind fault read) pairs kept fed failed at_end
   behind_fault None = h
-  behind_fault (Some NoMemory) = over Memory tt tt (λ e. cc) (λ all. all)
-  behind_fault (Some Faulted) = over BootFault tt tt (λ e. cc) (λ all. all)
-  behind_fault (Some Stopped) = over BootStopped tt tt (λ e. cc) (λ all. all)
-
-  behind_stop : (stop : Standing) → IsStop stop → HasRead stop pairs kept fed failed at_end
-  behind_stop SinkFailed is = over SinkFailed tt tt (λ e. cc) (λ all. all)
-  behind_stop Unwritten is = over Unwritten tt tt (λ e. cc) (λ all. all)
-  behind_stop Open is = absurd is
-  behind_stop Bad is = absurd is
-  behind_stop Full is = absurd is
-  behind_stop BootFault is = absurd is
-  behind_stop BootStopped is = absurd is
-  behind_stop Memory is = absurd is
+  behind_fault (Some NoMemory) = over Memory tt (λ e. cc) (λ all. all)
+  behind_fault (Some Faulted) = over BootFault tt (λ e. cc) (λ all. all)
+  behind_fault (Some Stopped) = over BootStopped tt (λ e. cc) (λ all. all)
 
   pub read_behind : (fault : Option StepFault) (standing : Standing) → StandsBehind fault read standing → HasRead standing pairs kept fed failed at_end
   read_behind fault standing (inl is) = subst (λ (s : Standing). HasRead s pairs kept fed failed at_end) (sym is) (behind_fault fault)
-  read_behind fault standing (inr stop) = behind_stop standing stop
+  read_behind fault standing (inr stop) = by_cut (λ (s : Standing). HasRead s pairs kept fed failed at_end) standing stop (over SinkFailed tt (λ e. cc) (λ all. all)) (over Unwritten tt (λ e. cc) (λ all. all))
 
 -- if all was played no step answered a fault
 fault_none : (fault : Option StepFault) (read : Standing) → HasPlayedAll (standing_behind fault read) → fault ≡ None
@@ -85,87 +88,57 @@ fault_none (Some NoMemory) read all = absurd all
 fault_none (Some Faulted) read all = absurd all
 fault_none (Some Stopped) read all = absurd all
 
-stop_none : (stop : Standing) → IsStop stop → HasPlayedAll stop → ⊥
-stop_none SinkFailed is all = all
-stop_none Unwritten is all = all
-stop_none Open is all = is
-stop_none Bad is all = is
-stop_none Full is all = is
-stop_none BootFault is all = is
-stop_none BootStopped is all = is
-stop_none Memory is all = is
-
 pub none_behind : (fault : Option StepFault) (read standing : Standing) → StandsBehind fault read standing → HasPlayedAll standing → fault ≡ None
 none_behind fault read standing (inl is) all = fault_none fault read (subst HasPlayedAll is all)
-none_behind fault read standing (inr stop) all = absurd (stop_none standing stop all)
+none_behind fault read standing (inr stop) all = absurd (by_cut (λ (s : Standing). HasPlayedAll s → ⊥) standing stop (λ all. all) (λ all. all) all)
+
+-- a session isn't full
+fault_room : (fault : Option StepFault) (read : Standing) → IsOfInput read → standing_behind fault read ≢ Full
+fault_room None read is = is.1
+fault_room (Some NoMemory) read is = λ e. cc
+fault_room (Some Faulted) read is = λ e. cc
+fault_room (Some Stopped) read is = λ e. cc
+
+pub room_behind : (fault : Option StepFault) (read standing : Standing) → IsOfInput read → StandsBehind fault read standing → standing ≢ Full
+room_behind fault read standing of (inl is) = λ e. fault_room fault read of (sym is ∙ e)
+room_behind fault read standing of (inr stop) = by_cut (λ (s : Standing). s ≢ Full) standing stop (λ e. cc) (λ e. cc)
 
 -- ---- what is reported of it
 
-input_boot : {B C : Type 0} (read : Standing) (core : CoreView B C) → IsOfInput read → core.state.ended ≡ false → TellsBoot read core
-input_boot Open core is live = live
-input_boot Bad core is live = live
-input_boot Full core is live = live
-input_boot Memory core is live = live
-input_boot BootFault core is live = absurd is
-input_boot BootStopped core is live = absurd is
-input_boot SinkFailed core is live = absurd is
-input_boot Unwritten core is live = absurd is
-
-pub behind_boot : {B C : Type 0} (fault : Option StepFault) (read : Standing) (core : CoreView B C) → IsOfInput read → TellsFault fault core → TellsBoot (standing_behind fault read) core
-behind_boot None read core is told = input_boot read core is told
+pub behind_boot : {B C : Type 0} (fault : Option StepFault) (read : Standing) (core : CoreView B C) → IsOfInput read → TellsFault fault core → TellsBoot (standing_behind fault read) core.state.ended core.entries
+behind_boot None read core is told = by_quiet (λ (s : Standing). TellsBoot s core.state.ended core.entries) read is.0 told told told told told
 behind_boot (Some NoMemory) read core is told = told
 behind_boot (Some Faulted) read core is told = told
 behind_boot (Some Stopped) read core is told = told
 
-input_written : (read : Standing) (first taken : Option (List ℕ)) (entries : List Entry) → IsOfInput read → IsWritten first entries taken → TellsFront read first entries taken
-input_written Open first taken entries is written = written
-input_written Bad first taken entries is written = written
-input_written Full first taken entries is written = written
-input_written Memory first taken entries is written = written
-input_written BootFault first taken entries is written = absurd is
-input_written BootStopped first taken entries is written = absurd is
-input_written SinkFailed first taken entries is written = absurd is
-input_written Unwritten first taken entries is written = absurd is
-
-pub behind_written : (fault : Option StepFault) (read : Standing) (first taken : Option (List ℕ)) (entries : List Entry) → IsOfInput read → IsWritten first entries taken → TellsFront (standing_behind fault read) first entries taken
-behind_written None read first taken entries is written = input_written read first taken entries is written
-behind_written (Some NoMemory) read first taken entries is written = written
-behind_written (Some Faulted) read first taken entries is written = written
-behind_written (Some Stopped) read first taken entries is written = written
-
-input_cause : (read : Standing) (a b : ℕ) → IsOfInput read → b ≡ a → TellsCause read a b
-input_cause Open a b is still = still
-input_cause Bad a b is still = still
-input_cause Full a b is still = still
-input_cause Memory a b is still = still
-input_cause BootFault a b is still = absurd is
-input_cause BootStopped a b is still = absurd is
-input_cause SinkFailed a b is still = absurd is
-input_cause Unwritten a b is still = absurd is
+pub behind_way : (fault : Option StepFault) (read : Standing) → IsOfInput read → way_of (standing_behind fault read) ≡ all_written
+behind_way None read is = by_quiet (λ (s : Standing). way_of s ≡ all_written) read is.0 refl refl refl refl refl
+behind_way (Some NoMemory) read is = refl
+behind_way (Some Faulted) read is = refl
+behind_way (Some Stopped) read is = refl
 
 pub behind_cause : (fault : Option StepFault) (read : Standing) (a b : ℕ) → IsOfInput read → b ≡ a → TellsCause (standing_behind fault read) a b
-behind_cause None read a b is still = input_cause read a b is still
-behind_cause (Some NoMemory) read a b is still = still
-behind_cause (Some Faulted) read a b is still = still
-behind_cause (Some Stopped) read a b is still = still
+behind_cause fault read a b is still = subst (λ (w : Way). CauseBy w a b) (sym (behind_way fault read is)) still
 
--- a stop of the telling
-pub stop_is : (stop : Standing) (a b : ℕ) → TellsWhy (Some stop) a b → IsStop stop
-stop_is SinkFailed a b why = tt
-stop_is Unwritten a b why = tt
-stop_is Open a b why = absurd why
-stop_is Bad a b why = absurd why
-stop_is Full a b why = absurd why
-stop_is BootFault a b why = absurd why
-stop_is BootStopped a b why = absurd why
-stop_is Memory a b why = absurd why
+behind_front : (fault : Option StepFault) (read : Standing) (entries : List Entry) (before taken : Option (List ℕ)) → IsOfInput read → IsWritten 0 entries before taken → FrontBy (way_of (standing_behind fault read)) entries before taken
+behind_front fault read entries before taken is written = subst (λ (w : Way). FrontBy w entries before taken) (sym (behind_way fault read is)) written
 
-pub stop_cause : (stop : Standing) (a b : ℕ) → TellsWhy (Some stop) a b → TellsCause stop a b
-stop_cause SinkFailed a b why = why
-stop_cause Unwritten a b why = why
-stop_cause Open a b why = absurd why
-stop_cause Bad a b why = absurd why
-stop_cause Full a b why = absurd why
-stop_cause BootFault a b why = absurd why
-stop_cause BootStopped a b why = absurd why
-stop_cause Memory a b why = absurd why
+pub told_behind : {B C : Type 0} (fault : Option StepFault) (read : Standing) (core : CoreView B C) (before after : Taken) → IsOfInput read → TellsFault fault core → WroteAll None core.entries before after
+    → TellsCrew fault read (standing_behind fault read) core before after
+told_behind fault read core before after is told w = record {
+  behind = inl refl;
+  front = behind_front fault read core.entries before.0 after.0 is w.0;
+  boot = behind_boot fault read core is told;
+  cause = behind_cause fault read before.1 after.1 is w.1;
+}
+
+pub told_cut : {B C : Type 0} (fault : Option StepFault) (read stop : Standing) (core : CoreView B C) (before after : Taken) → WroteAll (Some stop) core.entries before after → TellsCrew fault read stop core before after
+told_cut fault read SinkFailed core before after w = record { behind = inr tt; front = w.0; boot = tt; cause = w.1 }
+told_cut fault read Unwritten core before after w = record { behind = inr tt; front = w.0; boot = tt; cause = w.1 }
+told_cut fault read Open core before after w = absurd w
+told_cut fault read Bad core before after w = absurd w
+told_cut fault read TooMany core before after w = absurd w
+told_cut fault read Full core before after w = absurd w
+told_cut fault read BootFault core before after w = absurd w
+told_cut fault read BootStopped core before after w = absurd w
+told_cut fault read Memory core before after w = absurd w

@@ -14,21 +14,22 @@ use Rattle.tbl_core.specs.declared.service.StartFault.TheVariants.{Memory as NoM
 use Rattle.tbl_history.specs.Serving.{Serves}
 use Rattle.tbl_history.proofs.Laws.{Laws}
 use Rattle.tbl_history.proofs.ServingLemmas.{served_of}
-use Rattle.tbl_history.proofs.TroubleLemmas.{no_last, rose_never}
 use Rattle.tbl_session.specs.Openings.{Opening, IsFirst}
 use Rattle.tbl_session.specs.Served.{IsServed}
 use Rattle.tbl_session.specs.Session.{Ran, Boots}
 use Rattle.tbl_session.specs.Trouble.{Rises}
 use Rattle.tbl_drill.specs.Drill.{roomless}
 use Rattle.tbl_drill.specs.Drill as drill
-use Rattle.tbl_top.specs.Drilling.{AsksFront, Drills, DrillsThrough, summary}
-use Rattle.tbl_top.specs.Finishing.{Taken, status_of, unbegun_status}
+use Rattle.tbl_stream.specs.Finishing.{status_of, unbegun_status}
+use Rattle.tbl_stream.specs.Standing.{IsEnding, TellsBoot}
+use Rattle.tbl_stream.specs.Writing.{Taken}
+use Rattle.tbl_top.specs.Drilling.{AsksFront, Drills, DrillsThrough, IsOfScript, summary}
 use Rattle.tbl_top.specs.Listing.{TellsText}
-use Rattle.tbl_top.specs.Standing.{IsEnding, IsOfScript, TellsBoot}
-use Rattle.tbl_top.proofs.SessionLemmas.{rose_at_fault, rose_at_stop, served_nothing}
-use Rattle.tbl_top.proofs.StatusLemmas.{boots_as, no_boot}
-use Rattle.tbl_top.specs.declared.playback.Standing.{Standing}
-use Rattle.tbl_top.specs.declared.playback.Standing.TheVariants.{Open, Bad, Full, BootFault, BootStopped, SinkFailed, Memory, Unwritten}
+use Rattle.tbl_stream.proofs.ReportLemmas.{rose_at_fault, rose_at_stop, unbegun_boots, unbegun_rises}
+use Rattle.tbl_stream.proofs.ServingLemmas.{served_nothing}
+use Rattle.tbl_stream.proofs.StatusLemmas.{boots_as, no_boot}
+use Rattle.tbl_stream.specs.declared.standing.Standing.{Standing}
+use Rattle.tbl_stream.specs.declared.standing.Standing.TheVariants.{Open, Bad, TooMany, Full, BootFault, BootStopped, SinkFailed, Memory, Unwritten}
 use Rattle.tbl_kinds.specs.declared.entry.Entry.{Entry}
 use Rattle.tbl_kinds.specs.declared.request.Actor.{Actor}
 use Rattle.tbl_kinds.specs.declared.request.Request.{Request}
@@ -48,6 +49,7 @@ ending_of_script BootFault ending = (tt, λ e. cc)
 ending_of_script BootStopped ending = (tt, λ e. cc)
 ending_of_script Open ending = absurd ending
 ending_of_script Bad ending = absurd ending
+ending_of_script TooMany ending = absurd ending
 ending_of_script Full ending = absurd ending
 ending_of_script SinkFailed ending = absurd ending
 ending_of_script Memory ending = absurd ending
@@ -60,6 +62,7 @@ told_nothing BootFault text before known other = record { whole = λ e. absurd (
 told_nothing BootStopped text before known other = record { whole = λ e. absurd (omega (arith, e)); broken = λ e. absurd (omega (arith, e)); silent = inr (inr refl); calm = λ _. refl }
 told_nothing Memory text before known other = record { whole = λ e. absurd (omega (arith, e)); broken = λ e. absurd (omega (arith, e)); silent = inr (inr refl); calm = λ _. refl }
 told_nothing Bad text before known other = absurd known
+told_nothing TooMany text before known other = absurd known
 told_nothing Full text before known other = absurd known
 told_nothing SinkFailed text before known other = absurd known
 told_nothing Unwritten text before known other = absurd known
@@ -73,7 +76,7 @@ IsKnown status = (status ≡ 0) ⊎ (status ≡ 1) ⊎ (status ≡ 4) ⊎ (statu
 module _ {B C : Type 0} (seed rounds : ℕ) (g : Ghosts B) (verdict : C → List ℕ → ℤ) (o : Opening B C) (core : CoreView B C) (standing : Standing) (script left : List Pair) (r : Ran B)
     (bank_is : r.bank_then ≡ core.state.store.bank) (serves : Serves g verdict o core)
     (session_is : map roomless script ≡ drill.session seed rounds) (plays : script ≡ pairs_of core.entries ++ left) (all : standing ≡ Open → left ≡ [])
-    (boot : TellsBoot standing core) (told : TellsText r.status (summary core.entries) (r.taken, r.unwritten) (r.taken_then, r.unwritten_then)) where
+    (boot : TellsBoot standing core.state.ended core.entries) (told : TellsText r.status (summary core.entries) (r.taken, r.unwritten) (r.taken_then, r.unwritten_then)) where
   asks : ((r.status ≡ 0) ⊎ (r.status ≡ 4) → standing ≡ Open) → AsksFront r.status (drill.session seed rounds) core.entries
   asks whole = record {
     left = map roomless left;
@@ -101,7 +104,7 @@ module _ {B C : Type 0} (seed rounds : ℕ) (g : Ghosts B) (verdict : C → List
 
   -- all records were played
   pub drilled_open : standing ≡ Open → (r.status ≡ 0) ⊎ (r.status ≡ 1) ⊎ (r.status ≡ 4) → Drills seed rounds g verdict o r
-  drilled_open is (inl zero) = made (inl zero) (λ _. is) (subst (Boots g o.bank r core.entries []) (sym zero) (boots_as Open false true g o.bank core [] _ _ serves.caused (subst (λ (s : Standing). TellsBoot s core) is boot)))
+  drilled_open is (inl zero) = made (inl zero) (λ _. is) (subst (Boots g o.bank r core.entries []) (sym zero) (boots_as Open false true g o.bank core [] _ _ serves.caused (subst (λ (s : Standing). TellsBoot s core.state.ended core.entries) is boot)))
   drilled_open is (inr (inl one)) = made (inr (inl one)) (λ _. is) (no_boot r.status core.entries [] _ _ (inl one))
   drilled_open is (inr (inr four)) = made (inr (inr (inl four))) (λ _. is) (no_boot r.status core.entries [] _ _ (inr four))
 
@@ -110,13 +113,14 @@ module _ {B C : Type 0} (seed rounds : ℕ) (g : Ghosts B) (verdict : C → List
   drilled_front Open is other known status = absurd (other refl)
   drilled_front BootFault is other known status =
       made (inr (inr (inr (inl status)))) (λ some. absurd (elim some [ inl zero ↦ omega (arith, zero, status) | inr four ↦ omega (arith, four, status) ]))
-      (subst (Boots g o.bank r core.entries []) (sym status) (boots_as BootFault false true g o.bank core [] _ _ serves.caused (subst (λ (s : Standing). TellsBoot s core) is boot)))
+      (subst (Boots g o.bank r core.entries []) (sym status) (boots_as BootFault false true g o.bank core [] _ _ serves.caused (subst (λ (s : Standing). TellsBoot s core.state.ended core.entries) is boot)))
   drilled_front BootStopped is other known status =
       made (inr (inr (inr (inr status)))) (λ some. absurd (elim some [ inl zero ↦ omega (arith, zero, status) | inr four ↦ omega (arith, four, status) ]))
-      (subst (Boots g o.bank r core.entries []) (sym status) (boots_as BootStopped false true g o.bank core [] _ _ serves.caused (subst (λ (s : Standing). TellsBoot s core) is boot)))
+      (subst (Boots g o.bank r core.entries []) (sym status) (boots_as BootStopped false true g o.bank core [] _ _ serves.caused (subst (λ (s : Standing). TellsBoot s core.state.ended core.entries) is boot)))
   drilled_front Memory is other known status =
       made (inr (inl status)) (λ some. absurd (elim some [ inl zero ↦ omega (arith, zero, status) | inr four ↦ omega (arith, four, status) ])) (no_boot r.status core.entries [] _ _ (inl status))
   drilled_front Bad is other known status = absurd known
+  drilled_front TooMany is other known status = absurd known
   drilled_front Full is other known status = absurd known
   drilled_front SinkFailed is other known status = absurd known
   drilled_front Unwritten is other known status = absurd known
@@ -132,6 +136,7 @@ module _ {B C : Type 0} (seed rounds : ℕ) (g : Ghosts B) (verdict : C → List
     by BootStopped is known = front BootStopped is known (λ e. cc)
     by Memory is known = front Memory is known (λ e. cc)
     by Bad is known = absurd known
+    by TooMany is known = absurd known
     by Full is known = absurd known
     by SinkFailed is known = absurd known
     by Unwritten is known = absurd known
@@ -152,17 +157,18 @@ module _ {B C : Type 0} (seed rounds : ℕ) (g : Ghosts B) (laws : Laws g) (verd
   }
 
   pub undrilled : (fault : StartFault) → StartCounted g o.bank r.bank_then fault → r.status ≡ unbegun_status fault → Drills seed rounds g verdict o r
-  undrilled NoMemory counted status =
-      empty (inr (inl status)) (λ e. omega (arith, e, status)) (λ e. omega (arith, e, status))
-      (record { fault = inl (omega (arith, counted.0)); stop = inl (omega (arith, counted.1)) }) (no_boot r.status [] [] _ _ (inl status))
-  undrilled FirstFault counted status =
-      empty (inr (inr (inr (inl status)))) (λ e. omega (arith, e, status)) (λ e. omega (arith, e, status))
-      (record { fault = rose_never (g.faults o.bank) (g.faults r.bank_then) counted.0; stop = inl (omega (arith, counted.1)) })
-      (record { fault = λ _. inr (refl, refl, counted.0); stop = λ e. absurd (omega (arith, e, status)); told_fault = λ _. inl status; told_stop = λ boot. absurd (no_last boot.0 boot.1 boot.2) })
-  undrilled FirstStopped counted status =
-      empty (inr (inr (inr (inr status)))) (λ e. omega (arith, e, status)) (λ e. omega (arith, e, status))
-      (record { fault = inl (omega (arith, counted.1)); stop = rose_never (g.stops o.bank) (g.stops r.bank_then) counted.0 })
-      (record { fault = λ e. absurd (omega (arith, e, status)); stop = λ _. inr (refl, refl, counted.0); told_fault = λ boot. absurd (no_last boot.0 boot.1 boot.2); told_stop = λ _. inl status })
+  undrilled fault counted status =
+      empty (known fault status) (λ zero. (never fault).0 (sym status ∙ zero)) (λ four. (never fault).1 (sym status ∙ four)) (unbegun_rises g o.bank r.bank_then fault counted)
+      (subst (Boots g o.bank r [] []) (sym status) (unbegun_boots g o.bank r fault counted)) where
+        known : (fault : StartFault) → r.status ≡ unbegun_status fault → IsKnown r.status
+        known NoMemory is = inr (inl is)
+        known FirstFault is = inr (inr (inr (inl is)))
+        known FirstStopped is = inr (inr (inr (inr is)))
+
+        never : (fault : StartFault) → (unbegun_status fault ≢ 0) × (unbegun_status fault ≢ 4)
+        never NoMemory = (λ e. omega (arith, e), λ e. omega (arith, e))
+        never FirstFault = (λ e. omega (arith, e), λ e. omega (arith, e))
+        never FirstStopped = (λ e. omega (arith, e), λ e. omega (arith, e))
 
 -- ---- completeness
 

@@ -10,15 +10,15 @@ use Rattle.tbl_session.specs.Trouble.{EndsInBoot}
 use Rattle.tbl_top.specs.Histories.{PlaysSession, history_of}
 use Rattle.tbl_top.specs.Recovered.{StaysUp}
 use Rattle.tbl_top.specs.Words.{Outcome}
-use Rattle.tbl_top.proofs.StatusLemmas.{not_ended, booted_not_ended}
+use Rattle.tbl_stream.proofs.StatusLemmas.{not_ended, booted_not_ended}
 use Rattle.tbl_top.specs.declared.words.Word.{Word}
 use Rattle.tbl_top.specs.declared.words.Word.TheVariants.{Play, Crew, Watch, Store, Drill, Make, Describe}
 use Rattle.tbl_kinds.specs.declared.entry.Entry.{Entry}
 
 -- a session that ended was ended by no boot
 stays_up : (status : ℕ) (entries : List Entry) (read : List ℕ) (failed stopped : Type 0) → BootsAs status entries read failed stopped → IsEnded status → (by_stop : Bool) → EndsInBoot by_stop entries → ⊥
-stays_up status entries read failed stopped boots ended true in_boot = elim (boots.told_stop in_boot) [ inl eight ↦ booted_not_ended status (inr eight) ended | inr broken ↦ not_ended status broken ended ]
-stays_up status entries read failed stopped boots ended false in_boot = elim (boots.told_fault in_boot) [ inl seven ↦ booted_not_ended status (inl seven) ended | inr broken ↦ not_ended status broken ended ]
+stays_up status entries read failed stopped boots ended true in_boot = elim (boots.told_stop in_boot) [ inl eight ↦ booted_not_ended status (inr eight) (inl ended) | inr broken ↦ not_ended status broken (inl ended) ]
+stays_up status entries read failed stopped boots ended false in_boot = elim (boots.told_fault in_boot) [ inl seven ↦ booted_not_ended status (inl seven) (inl ended) | inr broken ↦ not_ended status broken (inl ended) ]
 
 module _ {B C : Type 0} (g : Ghosts B) (verdict : C → List ℕ → ℤ) (o : Opening B C) (r : Ran B) where
   pub served_of : (word : Word) → PlaysSession word → (outcome : Outcome word g verdict o r) → IsServed g verdict o r.bank_then (history_of word g verdict o r outcome)

@@ -1,17 +1,12 @@
-pub mod WritingLemmas
-pub mod PlayingLemmas
 pub mod OffsetLemmas
 pub mod ScriptsLemmas
-pub mod FeedingLemmas
-pub mod ReadingLemmas
 pub mod CollectingLemmas
 pub mod StatusLemmas
-pub mod FailureLemmas
 pub mod SessionLemmas
-pub mod OrderLemmas
 pub mod CompletenessLemmas
 pub mod RecoveredLaws
 pub mod CrewLemmas
+pub mod TellingLemmas
 pub mod WatchingLemmas
 pub mod SummaryLemmas
 pub mod ListingLemmas
@@ -19,4 +14,3 @@ pub mod DrillLemmas
 pub mod WordsLemmas
 pub mod MakerLemmas
 pub mod HistoryLemmas
-pub mod PlaysOnLemmas

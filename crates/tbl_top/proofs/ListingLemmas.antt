@@ -5,7 +5,7 @@ use Rattle.cds_layout.specs.Texts.{text_of}
 use Rattle.tbl_outside.specs.Bank.{LeavesOnly}
 use Rattle.tbl_outside.specs.Counts.{Rose, Still}
 use Rattle.tbl_outside.specs.declared.bank.Bank.{Ghosts}
-use Rattle.tbl_top.specs.Finishing.{Taken}
+use Rattle.tbl_stream.specs.Writing.{Taken}
 use Rattle.tbl_top.specs.Listing.{ListsStore, ListsThrough, TellsText}
 
 module _ {B : Type 0} (g : Ghosts B) (bank bank_then : B) (before : Taken) (kept : g.tells → g.now bank_then ≡ g.now bank)

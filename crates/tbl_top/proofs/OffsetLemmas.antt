@@ -2,12 +2,17 @@
 use Rattle.std.proofs.Common.{◌≡◌, ℕ, zero, suc, ◌+◌, ◌*◌, ◌<◌, ◌≤◌, List, [], ◌∷◌, ◌++◌, length, take, get_or, sym, ap, ◌∙◌, subst, arith}
 use Rattle.std.specs.List.{AllByRecursion}
 use Rattle.std.proofs.lemmas.List.{length-append, length-map, take_more}
-use Rattle.tbl_kinds.specs.Records.{IsRecord, body_of, record_limit, spelling, joined}
+use Rattle.tbl_kinds.specs.Records.{Pair, IsRecord, body_of, record_limit, spelling, joined}
 use Rattle.tbl_kinds.specs.Transcript.{pair_of, pairs_of, offset_of}
 use Rattle.tbl_kinds.specs.declared.entry.Entry.{Entry}
 use Rattle.tbl_kinds.proofs.RecordLaws.{length-spelling}
 use Rattle.tbl_kinds.proofs.TranscriptLaws.{offset_is, offset_of-snoc}
-use Rattle.tbl_top.proofs.PlayingLemmas.{joined_bound}
+
+-- records have at most 32,836 bytes each
+pub joined_bound : (pairs : List Pair) → AllByRecursion IsRecord pairs → length (joined pairs) ≤ 32836 * length pairs
+joined_bound [] each = omega arith
+joined_bound (p ∷ pairs) each =
+    omega (arith, length-append (spelling p) (joined pairs), length-spelling p, each.0.within, joined_bound pairs each.1)
 
 -- the entry at a place is of a record
 record_at : (entries : List Entry) (place : ℕ) (d : Entry) → AllByRecursion IsRecord (pairs_of entries) → place < length entries → IsRecord (pair_of (get_or entries place d))

@@ -1,7 +1,9 @@
 -- From what a watched crew played to the report that was written.
 use Rattle.std.proofs.Common.{◌≡◌, ◌≢◌, ◌≤◌, ℕ, ℤ, eqb, Bool, true, List, [], length, Option, Some, None, refl, sym, ◌∙◌, arith, inl, inr}
 use Rattle.std.specs.Io.KnownBytes.{prepend_known, IsAtEnd}
-use Rattle.tbl_kinds.specs.Records.{Pair}
+use Rattle.std.specs.List.{AllByRecursion}
+use Rattle.tbl_kinds.specs.Records.{Pair, IsRecord, record_limit}
+use Rattle.tbl_kinds.specs.Transcript.{pairs_of}
 use Rattle.tbl_kinds.specs.StoreSteps.{Shows}
 use Rattle.cds_layout.specs.Images.{store_of}
 use Rattle.table_watch.specs.Report.{report}
@@ -27,18 +29,22 @@ use Rattle.tbl_session.specs.Actors.{part}
 use Rattle.tbl_session.specs.Openings.{Opening, IsFirst}
 use Rattle.tbl_session.specs.Served.{IsServed}
 use Rattle.tbl_session.specs.Session.{Ran, IsEnded, Session}
-use Rattle.tbl_top.specs.Failures.{TellsFailures}
-use Rattle.tbl_top.specs.Finishing.{Taken, Finishes, FinishesUnbegun, status_of, unbegun_status}
+use Rattle.tbl_stream.specs.Finishing.{FinishesAs, FinishesBy, FinishesUnbegun, status_of, unbegun_status}
+use Rattle.tbl_stream.specs.Places.{end_of}
+use Rattle.tbl_stream.specs.Reading.{HasFailed}
+use Rattle.tbl_stream.specs.Reports.{HasEnded, TellsFailures}
+use Rattle.tbl_stream.specs.Standing.{FrontBy, HasPlayedAll, IsOfInput, TellsBoot, TellsCause, Way, all_written, not_taken, not_spelled, way_of}
+use Rattle.tbl_stream.specs.Writing.{Taken}
 use Rattle.tbl_top.specs.Listing.{TellsText}
-use Rattle.tbl_top.specs.Reading.{HasFailed, HasRead}
-use Rattle.tbl_top.specs.Standing.{HasPlayedAll, IsOfInput, StandsBehind, TellsBoot, TellsCause, TellsFront, standing_behind}
+use Rattle.tbl_top.specs.Reading.{HasRead}
+use Rattle.tbl_top.specs.Telling.{StandsBehind, standing_behind}
 use Rattle.tbl_top.specs.Watching.{ReportsAs, Watched, Watches, but_for_sink, fault_of}
-use Rattle.tbl_top.specs.declared.playback.Standing.{Standing}
-use Rattle.tbl_top.specs.declared.playback.Standing.TheVariants.{Open, Bad, Full, BootFault, BootStopped, SinkFailed, Memory, Unwritten}
-use Rattle.tbl_top.proofs.CrewLemmas.{behind_boot, behind_cause, by_actor, none_behind, nothing_requested, read_behind}
-use Rattle.tbl_top.proofs.FailureLemmas.{reads_of}
-use Rattle.tbl_top.proofs.SessionLemmas.{session_of, unbegun}
-use Rattle.tbl_top.proofs.StatusLemmas.{not_ended, not_sink}
+use Rattle.tbl_stream.specs.declared.standing.Standing.{Standing}
+use Rattle.tbl_stream.specs.declared.standing.Standing.TheVariants.{Open, Bad, TooMany, Full, BootFault, BootStopped, SinkFailed, Memory, Unwritten}
+use Rattle.tbl_stream.proofs.FailureLemmas.{reads_of}
+use Rattle.tbl_stream.proofs.StatusLemmas.{not_ended, not_four}
+use Rattle.tbl_top.proofs.CrewLemmas.{behind_boot, behind_cause, behind_way, by_actor, none_behind, nothing_requested, read_behind, room_behind}
+use Rattle.tbl_top.proofs.SessionLemmas.{session_of, unbegun_session}
 use Rattle.tbl_kinds.specs.declared.entry.Entry.{Entry}
 use Rattle.tbl_kinds.specs.declared.request.Request.{Request}
 
@@ -50,7 +56,7 @@ module _ {B C : Type 0} (g : Ghosts B) (verdict : C → List ℕ → ℤ) (o : O
   served (Some (Step cause)) looks is = is.0.served
   served (Some NoLook) looks is = is.served
 
-  have_played : (end : Option WatchEnd) (looks : List Look) → IsWatched g verdict o scripts end looks core → HavePlayed (fault_of end) scripts core.entries
+  pub have_played : (end : Option WatchEnd) (looks : List Look) → IsWatched g verdict o scripts end looks core → HavePlayed (fault_of end) scripts core.entries
   have_played None looks is = is.0.played
   have_played (Some (Step cause)) looks is = is.0.played
   have_played (Some NoLook) looks is = is.played
@@ -59,6 +65,11 @@ module _ {B C : Type 0} (g : Ghosts B) (verdict : C → List ℕ → ℤ) (o : O
   caused None looks is = is.0.caused
   caused (Some (Step cause)) looks is = is.0.caused
   caused (Some NoLook) looks is = is.caused
+
+  pub few_played : (end : Option WatchEnd) (looks : List Look) → IsWatched g verdict o scripts end looks core → length core.entries ≤ record_limit
+  few_played None looks is = is.0.few
+  few_played (Some (Step cause)) looks is = is.0.few
+  few_played (Some NoLook) looks is = is.few
 
   tells_fault : (end : Option WatchEnd) (looks : List Look) → IsWatched g verdict o scripts end looks core → TellsFault (fault_of end) core
   tells_fault None looks is = is.0.ended
@@ -97,59 +108,30 @@ text_told (Some why) watched all read failed whole result before after ends told
 
 -- ---- with a sink that doesn't show what it took
 
-untold : (s : Standing) (entries : List Entry) → TellsFront s None entries None
-untold Open entries = refl
-untold Bad entries = refl
-untold Full entries = refl
-untold BootFault entries = refl
-untold BootStopped entries = refl
-untold Memory entries = refl
-untold SinkFailed entries = record { count = 0; grown = refl }
-untold Unwritten entries = record { count = 0; grown = refl }
+untold : (way : Way) (entries : List Entry) → FrontBy way entries None None
+untold all_written entries = refl
+untold not_taken entries = record { count = 0; grown = refl }
+untold not_spelled entries = record { count = 0; grown = refl }
 
-finishes : (s : Standing) (failed whole : Bool) (result : ℕ) (entries : List Entry) (faults faults_then : ℕ) → result ≡ status_of s failed whole → faults_then ≡ faults → Finishes s (status_of s failed whole) result entries (None, faults) (None, faults_then)
-finishes Open failed whole result entries faults faults_then is still = inl (is, refl, still)
-finishes Bad failed whole result entries faults faults_then is still = inl (is, refl, still)
-finishes Full failed whole result entries faults faults_then is still = inl (is, refl, still)
-finishes BootFault failed whole result entries faults faults_then is still = inl (is, refl, still)
-finishes BootStopped failed whole result entries faults faults_then is still = inl (is, refl, still)
-finishes Memory failed whole result entries faults faults_then is still = inl (is, refl, still)
-finishes SinkFailed failed whole result entries faults faults_then is still = (is, refl)
-finishes Unwritten failed whole result entries faults faults_then is still = (is, refl, still)
+-- the end record, or what was to be written in its place
+finishes : (way : Way) (status result : ℕ) (bytes : List ℕ) (faults faults_then : ℕ) → way ≡ all_written → result ≡ status → faults_then ≡ faults → FinishesBy way status result bytes (None, faults) (None, faults_then)
+finishes all_written status result bytes faults faults_then all is still = inl (is, refl, still)
+finishes not_taken status result bytes faults faults_then all is still = absurd cc
+finishes not_spelled status result bytes faults faults_then all is still = absurd cc
 
 -- the sink failed
-breaks : (s : Standing) (failed whole : Bool) (result : ℕ) (entries : List Entry) (faults faults_then : ℕ) → status_of s failed whole ≡ 0 → result ≡ 4 → Rose faults faults_then
-    → Finishes s (status_of s failed whole) result entries (None, faults) (None, faults_then)
-breaks Open failed whole result entries faults faults_then zero four rose = inr (four, record { count = 0; grown = refl }, rose)
-breaks Bad failed whole result entries faults faults_then zero four rose = absurd (omega (arith, zero))
-breaks Full failed whole result entries faults faults_then zero four rose = absurd (omega (arith, zero))
-breaks BootFault failed whole result entries faults faults_then zero four rose = absurd (omega (arith, zero))
-breaks BootStopped failed whole result entries faults faults_then zero four rose = absurd (omega (arith, zero))
-breaks Memory failed whole result entries faults faults_then zero four rose = absurd (omega (arith, zero))
-breaks SinkFailed failed whole result entries faults faults_then zero four rose = absurd (omega (arith, zero))
-breaks Unwritten failed whole result entries faults faults_then zero four rose = absurd (omega (arith, zero))
-
--- the standing of a session is no failure of the sink before anything is written
-pub not_sink_failed : (end : Option WatchEnd) (read : Standing) → IsOfInput read → standing_behind (fault_of end) read ≢ SinkFailed
-not_sink_failed None Open is e = absurd (cc)
-not_sink_failed None Bad is e = absurd (cc)
-not_sink_failed None Full is e = absurd (cc)
-not_sink_failed None Memory is e = absurd (cc)
-not_sink_failed None BootFault is e = absurd is
-not_sink_failed None BootStopped is e = absurd is
-not_sink_failed None SinkFailed is e = absurd is
-not_sink_failed None Unwritten is e = absurd is
-not_sink_failed (Some (Step NoMemory)) read is e = absurd (cc)
-not_sink_failed (Some (Step Faulted)) read is e = absurd (cc)
-not_sink_failed (Some (Step Stopped)) read is e = absurd (cc)
-not_sink_failed (Some NoLook) read is e = absurd (cc)
+breaks : (way : Way) (status result : ℕ) (bytes : List ℕ) (faults faults_then : ℕ) → way ≡ all_written → result ≡ 4 → Rose faults faults_then → FinishesBy way status result bytes (None, faults) (None, faults_then)
+breaks all_written status result bytes faults faults_then all four rose = inr (four, record { count = 0; grown = refl }, rose)
+breaks not_taken status result bytes faults faults_then all four rose = absurd cc
+breaks not_spelled status result bytes faults faults_then all four rose = absurd cc
 
 -- ---- the session
 
 module _ {B C : Type 0} (g : Ghosts B) (verdict : C → List ℕ → ℤ) (o : Opening B C) (scripts : List (List Request)) (core : CoreView B C) (end : Option WatchEnd) (looks : List Look)
     (is : IsWatched g verdict o scripts end looks core) (read : Standing) (pairs : List Pair) (kept bytes : List ℕ) (failed : Bool) (r : Ran B)
     (bank_is : r.bank_then ≡ core.state.store.bank) (came : r.left ≡ prepend_known bytes r.left_then) (same : (actor : ℕ) → script_of scripts actor ≡ part actor pairs)
-    (has : HasRead read pairs kept bytes failed (IsAtEnd r.left_then)) (input : IsOfInput read) (cause : HasFailed failed r.unread r.unread_then) (up : r.unwritten ≤ r.unwritten_then) where
+    (has : HasRead read pairs kept bytes failed (IsAtEnd r.left_then)) (input : IsOfInput read) (cause : HasFailed failed r.unread r.unread_then) (up : r.unwritten ≤ r.unwritten_then)
+    (records : AllByRecursion IsRecord (pairs_of core.entries)) (few : length core.entries ≤ record_limit) where
   abbrev Looks : List Look
   Looks = looks_told end looks (watched_by o.state core.entries)
 
@@ -159,31 +141,32 @@ module _ {B C : Type 0} (g : Ghosts B) (verdict : C → List ℕ → ℤ) (o : O
   abbrev status_at : Standing → ℕ
   status_at s = status_of s failed (eqb (length kept) 0)
 
-  session_at : (s : Standing) → StandsBehind (fault_of end) read s → TellsBoot s core → TellsCause s r.unwritten r.unwritten → Finishes s (status_at s) r.status core.entries (None, r.unwritten) (None, r.unwritten_then)
-      → Session (Watched g o Looks) g verdict o (but_for_sink r)
+  abbrev End : ℕ → List ℕ
+  End status = end_of status core.entries
+
+  session_at : (s : Standing) → StandsBehind (fault_of end) read s → TellsBoot s core.state.ended core.entries → TellsCause s r.unwritten r.unwritten
+      → FinishesAs s failed (eqb (length kept) 0) r.status End (None, r.unwritten) (None, r.unwritten_then) → Session (Watched g o Looks) g verdict o (but_for_sink r)
   session_at s behind boot why ending =
-      session_of (Watched g o Looks) g verdict o core s pairs kept bytes failed (but_for_sink r) None r.unwritten bank_is came
+      session_of (Watched g o Looks) g verdict o core s pairs kept bytes failed (but_for_sink r) (None, r.unwritten) bank_is came records few
       (served g verdict o scripts core end looks is) (caused g verdict o scripts core end looks is)
       (λ all. (
         by_actor r.status (fault_of end) scripts pairs core.entries same (λ ended. none_behind (fault_of end) read s behind (all ended)) (have_played g verdict o scripts core end looks is),
         looks_are g verdict o scripts core end looks is,
       ))
       (read_behind read pairs kept bytes failed (IsAtEnd r.left_then) has (fault_of end) s behind)
-      cause boot (omega arith) (untold s core.entries) why up ending
+      cause boot (room_behind (fault_of end) read s input behind) (omega arith) up (untold (way_of s) core.entries) why ending
 
-  stands_boot : TellsBoot Stands core
-  stands_boot = behind_boot (fault_of end) read core input (tells_fault g verdict o scripts core end looks is)
+  stands_way : way_of Stands ≡ all_written
+  stands_way = behind_way (fault_of end) read input
 
-  stands_cause : TellsCause Stands r.unwritten r.unwritten
-  stands_cause = behind_cause (fault_of end) read r.unwritten r.unwritten input refl
-
-  not_four : r.status ≡ status_at Stands → r.status ≢ 4
-  not_four status four = not_sink Stands failed (eqb (length kept) 0) (not_sink_failed end read input) (sym status ∙ four)
+  session_stands : FinishesAs Stands failed (eqb (length kept) 0) r.status End (None, r.unwritten) (None, r.unwritten_then) → Session (Watched g o Looks) g verdict o (but_for_sink r)
+  session_stands = session_at Stands (inl refl) (behind_boot (fault_of end) read core input (tells_fault g verdict o scripts core end looks is)) (behind_cause (fault_of end) read r.unwritten r.unwritten input refl)
 
   session_by : ReportsAs (status_at Stands) r.status → (r.status ≡ 4 → Rose r.unwritten r.unwritten_then) → (r.status ≢ 4 → r.unwritten_then ≡ r.unwritten) → Session (Watched g o Looks) g verdict o (but_for_sink r)
-  session_by (inl status) rose calm = session_at Stands (inl refl) stands_boot stands_cause (finishes Stands failed (eqb (length kept) 0) r.status core.entries r.unwritten r.unwritten_then status (calm (not_four status)))
+  session_by (inl status) rose calm =
+      session_stands (finishes (way_of Stands) (status_at Stands) r.status (End (status_at Stands)) r.unwritten r.unwritten_then stands_way status (calm (λ four. not_four Stands failed (eqb (length kept) 0) stands_way (sym status ∙ four))))
   session_by (inr (zero, inl one)) rose calm = session_at Unwritten (inr tt) tt refl (one, refl, calm (λ four. omega (arith, one, four)))
-  session_by (inr (zero, inr four)) rose calm = session_at Stands (inl refl) stands_boot stands_cause (breaks Stands failed (eqb (length kept) 0) r.status core.entries r.unwritten r.unwritten_then zero four (rose four))
+  session_by (inr (zero, inr four)) rose calm = session_stands (breaks (way_of Stands) (status_at Stands) r.status (End (status_at Stands)) r.unwritten r.unwritten_then stands_way four (rose four))
 
   pub watches : ReportsAs (status_at Stands) r.status → TellsText r.status (report looks) (r.taken, r.unwritten) (r.taken_then, r.unwritten_then) → Watches g verdict o r
   watches ends told = record {
@@ -193,19 +176,19 @@ module _ {B C : Type 0} (g : Ghosts B) (verdict : C → List ℕ → ℤ) (o : O
   }
 
 -- a read that failed is reported by it, and a write
-reads_told : {B : Type 0} (standing : Standing) (failed whole : Bool) (r : Ran B) → HasFailed failed r.unread r.unread_then → (failed ≡ true → HasPlayedAll standing → standing ≡ Open) → ReportsAs (status_of standing failed whole) r.status
-    → IsEnded r.status → (r.status ≢ 3) → r.unread_then ≡ r.unread
-reads_told standing failed whole r cause cut (inl status) ended other =
-    reads_of standing failed whole r.status [] r.unread r.unread_then (None, 0) (None, 0) cause cut (finishes standing failed whole r.status [] 0 0 status refl) ended other
-reads_told standing failed whole r cause cut (inr (zero, inl one)) ended other = absurd (not_ended r.status (inl one) ended)
-reads_told standing failed whole r cause cut (inr (zero, inr four)) ended other = absurd (not_ended r.status (inr four) ended)
+reads_told : {B : Type 0} (standing : Standing) (failed whole : Bool) (r : Ran B) → way_of standing ≡ all_written → HasFailed failed r.unread r.unread_then → (failed ≡ true → HasPlayedAll standing → standing ≡ Open)
+    → ReportsAs (status_of standing failed whole) r.status → HasEnded r.status → (r.status ≢ 3) → r.unread_then ≡ r.unread
+reads_told standing failed whole r way cause cut (inl status) ended other =
+    reads_of standing failed whole r.status (λ _. []) r.unread r.unread_then (None, 0) (None, 0) cause cut (finishes (way_of standing) (status_of standing failed whole) r.status [] 0 0 way status refl) ended other
+reads_told standing failed whole r way cause cut (inr (zero, inl one)) ended other = absurd (not_ended r.status (inl one) ended)
+reads_told standing failed whole r way cause cut (inr (zero, inr four)) ended other = absurd (not_ended r.status (inr four) ended)
 
-pub watch_failures : {B : Type 0} (end : Option WatchEnd) (read : Standing) (pairs : List Pair) (kept bytes text : List ℕ) (failed : Bool) (at_end : Type 0) (r : Ran B) → HasRead read pairs kept bytes failed at_end → HasFailed failed r.unread r.unread_then
+pub watch_failures : {B : Type 0} (end : Option WatchEnd) (read : Standing) (pairs : List Pair) (kept bytes text : List ℕ) (failed : Bool) (at_end : Type 0) (r : Ran B) → IsOfInput read → HasRead read pairs kept bytes failed at_end → HasFailed failed r.unread r.unread_then
     → ReportsAs (status_of (standing_behind (fault_of end) read) failed (eqb (length kept) 0)) r.status → TellsText r.status text (r.taken, r.unwritten) (r.taken_then, r.unwritten_then) → TellsFailures r
-watch_failures end read pairs kept bytes text failed at_end r has cause ends told =
+watch_failures end read pairs kept bytes text failed at_end r input has cause ends told =
     let stands = standing_behind (fault_of end) read in
     record {
-      reads = reads_told stands failed (eqb (length kept) 0) r cause (read_behind read pairs kept bytes failed at_end has (fault_of end) stands (inl refl)).cut ends;
+      reads = reads_told stands failed (eqb (length kept) 0) r (behind_way (fault_of end) read input) cause (read_behind read pairs kept bytes failed at_end has (fault_of end) stands (inl refl)).cut ends;
       writes = told.calm;
     }
 
@@ -213,8 +196,8 @@ watch_failures end read pairs kept bytes text failed at_end r has cause ends tol
 
 unbegun_finishes : (fault : StartFault) (result faults faults_then : ℕ) → result ≡ unbegun_status fault → faults_then ≡ faults → FinishesUnbegun fault result (None, faults) (None, faults_then)
 unbegun_finishes NoStart result faults faults_then is still = (is, refl, still)
-unbegun_finishes FirstFault result faults faults_then is still = inl (inl (is, refl, still))
-unbegun_finishes FirstStopped result faults faults_then is still = inl (inl (is, refl, still))
+unbegun_finishes FirstFault result faults faults_then is still = inl (is, refl, still)
+unbegun_finishes FirstStopped result faults faults_then is still = inl (is, refl, still)
 
 unbegun_silent : (fault : StartFault) → (unbegun_status fault ≢ 0) × (unbegun_status fault ≢ 4)
 unbegun_silent NoStart = (λ e. omega (arith, e), λ e. omega (arith, e))
@@ -229,6 +212,6 @@ unwatched g laws verdict o first r same crash nothing still fault counted status
     let no = unbegun_silent fault in
     record {
       looks = none;
-      session = unbegun (Watched g o none) g laws verdict o first (but_for_sink r) same crash (nothing_requested r.status, all_looks g.tells o.state []) fault counted (unbegun_finishes fault r.status r.unwritten r.unwritten_then status still);
+      session = unbegun_session (Watched g o none) g laws verdict o first (but_for_sink r) same crash (nothing_requested r.status, all_looks g.tells o.state []) fault counted (unbegun_finishes fault r.status r.unwritten r.unwritten_then status still);
       told = record { whole = λ zero. absurd (no.0 (sym status ∙ zero)); broken = λ four. absurd (no.1 (sym status ∙ four)); silent = inr (inr nothing); calm = λ _. still };
     }

@@ -1,20 +1,21 @@
 -- What was read of an input before any of it is played.
-use Rattle.std.specs.Prelude.{◌≡◌, ℕ, ◌+◌, ◌<◌, ◌≤◌, List, [], ◌∷◌, ◌++◌, length, drop, replicate, Bool, Option, Some, None}
+use Rattle.std.specs.Prelude.{◌≡◌, ℕ, ◌+◌, ◌<◌, ◌≤◌, List, [], ◌∷◌, ◌++◌, length, drop, replicate, Bool, Option, Some, None, MatchOption}
 use Rattle.std.specs.List.{AllByRecursion}
+use Rattle.std.specs.Io.KnownBytes.{prepend_known, IsAtEnd}
 use Rattle.tbl_kinds.specs.Records.{Pair, IsRecord, spelling, joined, record_limit}
 use Rattle.tbl_kinds.specs.declared.request.Request.{Request}
 use Rattle.tbl_session.specs.Actors.{actor_count}
 use Rattle.tbl_crew.specs.Scripts.{pushed}
-use Rattle.tbl_top.specs.Feeding.{IsKept}
-use Rattle.tbl_top.specs.Standing.{IsOfInput, Leaves}
+use Rattle.tbl_stream.specs.Feeding.{IsKept}
+use Rattle.tbl_stream.specs.Standing.{FindsNone, IsOfInput, Leaves}
 use Rattle.tbl_top.specs.Reading.{HasRead}
-use Rattle.tbl_top.specs.declared.playback.Standing.{Standing}
-use Rattle.tbl_top.specs.declared.playback.Standing.TheVariants.{Open}
+use Rattle.tbl_stream.specs.declared.standing.Standing.{Standing}
+use Rattle.tbl_stream.specs.declared.standing.Standing.TheVariants.{Open}
 
--- the records by their actors, how many they are, and the bytes after them
+-- the records by their actors, how many may follow, and the bytes after them
 pub record Collecting : Type 0 where
   pub scripts : List (List Request)
-  pub count : ℕ
+  pub left : ℕ
   pub rest : List ℕ
 
 -- each of these records put last in the script of its actor
@@ -32,10 +33,9 @@ pub record HasTaken (standing : Standing) (fed : List ℕ) (most : ℕ) (pairs :
   pub parts : fed ≡ joined pairs ++ behind
   pub near : length behind ≤ most
   pub each : AllByRecursion IsRecord pairs
-  pub few : length pairs ≤ record_limit
+  pub few : record_limit ≡ c.left + length pairs
   pub scripts : c.scripts ≡ scripts_of pairs
-  pub count : c.count ≡ length pairs
-  pub leaves : Leaves standing (length pairs) behind
+  pub leaves : Leaves standing (Some c.left) behind
   pub keeps : IsKept standing behind c.rest
 
 -- a record more was taken, which was between these places
@@ -45,14 +45,13 @@ pub record TakesOne (at further : ℕ) (old new : Collecting) : Type 0 where
   pub spelled : drop at old.rest ≡ spelling pair ++ drop further old.rest
   pub some : at < further
   pub scripts : new.scripts ≡ pushed old.scripts pair
-  pub count : new.count ≡ old.count + 1
+  pub left : old.left ≡ new.left + 1
 
 -- none was, and a standing describes what is at the place
 pub record TakesNone (standing : Standing) (at further : ℕ) (old new : Collecting) : Type 0 where
   pub same : new ≡ old
   pub stays : further ≡ at
-  pub input : IsOfInput standing
-  pub leaves : Leaves standing old.count (drop at old.rest)
+  pub none : FindsNone standing (Some old.left) (drop at old.rest)
 
 -- with a piece more: an open input goes on, if something came; else this is how it ended
 abbrev pub TakesMore : Option (Standing × Bool) → List ℕ → Collecting → Type 0 → Type 0 → Type 0
@@ -63,3 +62,20 @@ TakesMore (Some ended) fed c some at_end = (pairs : List Pair) × (c.scripts ≡
 abbrev pub failed_of : Option (Standing × Bool) → Option Bool
 failed_of None = None
 failed_of (Some ended) = Some ended.1
+
+-- One piece was read, from what the source had still to give before to what it has then.
+pub record CollectsPiece (ended : Option (Standing × Bool)) (old new : Collecting) (before after : Option (List ℕ)) : Type 0 where
+  pub read : List ℕ
+  pub came : before ≡ prepend_known read after
+  -- of whatever was fed before, more records are taken, and this is what comes after them
+  pub takes : (fed : List ℕ) (most : ℕ) (pairs : List Pair) → HasTaken Open fed most pairs old → TakesMore ended (fed ++ read) new (0 < length read) (IsAtEnd after)
+  pub input : MatchOption ended (Unit {0}) (λ end. IsOfInput end.0)
+
+-- The whole input was read so.
+pub record Collects (ended : Standing × Bool) (c : Collecting) (before after : Option (List ℕ)) : Type 0 where
+  pub read : List ℕ
+  pub came : before ≡ prepend_known read after
+  pub pairs : List Pair
+  pub scripts : c.scripts ≡ scripts_of pairs
+  pub has : HasRead ended.0 pairs c.rest read ended.1 (IsAtEnd after)
+  pub input : IsOfInput ended.0

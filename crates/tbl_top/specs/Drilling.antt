@@ -1,8 +1,8 @@
 -- A drill, played in order, and the line that sums it up.
-use Rattle.std.specs.Prelude.{◌≡◌, ◌⊎◌, ℕ, ◌==◌, List, [], ◌++◌, length, map, count_by, codes, Option, Bool, false, ◌&&◌, ◌||◌, not, nat_lt}
+use Rattle.std.specs.Prelude.{◌≡◌, ◌⊎◌, ◌<◌, ℕ, ◌==◌, List, [], ◌∷◌, ◌++◌, length, map, count_by, codes, Option, Bool, false, ◌&&◌, ◌||◌, not, nat_lt}
 use Rattle.std.specs.Fmt.{decimal}
 use Rattle.std.proofs.Common.{ℤ}
-use Rattle.tbl_kinds.specs.Records.{Pair}
+use Rattle.tbl_kinds.specs.Records.{Pair, record_limit}
 use Rattle.tbl_kinds.specs.Transcript.{pairs_of}
 use Rattle.tbl_outside.specs.Counts.{Rose, RoseBy}
 use Rattle.tbl_outside.specs.declared.bank.Bank.{Ghosts}
@@ -15,10 +15,35 @@ use Rattle.tbl_top.specs.Listing.{TellsText}
 use Rattle.tbl_top.specs.declared.summary.Class.{Class}
 use Rattle.tbl_top.specs.declared.summary.Class.TheVariants.{Success, Info, Refused, Image}
 use Rattle.tbl_kinds.specs.declared.entry.Entry.{Entry}
+use Rattle.tbl_core.specs.Service.{CoreView}
+use Rattle.tbl_stream.specs.declared.standing.Standing.{Standing}
+use Rattle.tbl_stream.specs.declared.standing.Standing.TheVariants.{Open, BootFault, BootStopped, Memory}
+use Rattle.tbl_kinds.specs.declared.request.Actor.{Actor}
 use Rattle.tbl_kinds.specs.declared.request.Request.{Request}
 use Rattle.tbl_kinds.specs.declared.request.Request.TheVariants as ask
 use Rattle.tbl_kinds.specs.declared.status.Status.{Status}
 use Rattle.tbl_kinds.specs.declared.status.TheConstants.Status.{SUCCESS, INFO_UPDATED, INFO_RECOVERED_TBL, INFO_STOPPED}
+
+-- ---- one request more
+
+-- only playing a script leads to these
+abbrev pub IsOfScript : Standing → Type 0
+IsOfScript Open = Unit {0}
+IsOfScript BootFault = Unit {0}
+IsOfScript BootStopped = Unit {0}
+IsOfScript Memory = Unit {0}
+IsOfScript _ = ⊥
+
+-- one entry more, of this actor and this request
+abbrev pub AddsEntry : List Entry → List Entry → Actor → Request → Type 0
+AddsEntry old new actor request = (e : Entry) × (new ≡ old ++ e ∷ []) × (e.actor ≡ actor) × (e.request ≡ request)
+
+-- A further record may be played.
+pub record MayPlayOne {B C : Type 0} (core : CoreView B C) : Type 0 where
+  -- the service hasn't ended
+  pub live : core.state.ended ≡ false
+  -- it has played fewer than a session may have
+  pub room : length core.entries < record_limit
 
 -- ---- the counts
 

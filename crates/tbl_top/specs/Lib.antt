@@ -1,14 +1,8 @@
 pub mod Maker
 pub mod Watching
 pub mod Words
-pub mod Playing
-pub mod Standing
-pub mod PlaysOn
-pub mod Soundness
 pub mod Starting
-pub mod Feeding
-pub mod Finishing
-pub mod Failures
+pub mod Telling
 pub mod InTurn
 pub mod Reading
 pub mod Collecting

@@ -7,7 +7,7 @@ use Rattle.tbl_outside.specs.Bank.{LeavesOnly}
 use Rattle.tbl_outside.specs.Counts.{Rose, Still}
 use Rattle.tbl_outside.specs.Streams.{TakesFront}
 use Rattle.tbl_outside.specs.declared.bank.Bank.{Ghosts}
-use Rattle.tbl_top.specs.Finishing.{Taken}
+use Rattle.tbl_stream.specs.Writing.{Taken}
 
 -- What a sink took of a text, by the status: after 0 all of it, after 4 a front of it, if the sink failed, and else nothing. A write that
 -- fails is reported by 4.

@@ -1,5 +1,5 @@
 -- What the program is asked for, how it is spelled on the command line, and what it then does.
-use Rattle.std.specs.Prelude.{◌≡◌, ◌⊎◌, ℕ, ◌<◌, ◌≤◌, ◌^◌, List, [], ◌∷◌, map, codes, true}
+use Rattle.std.specs.Prelude.{◌≡◌, ◌↔◌, ◌⊎◌, ℕ, ◌<◌, ◌≤◌, ◌^◌, List, [], ◌∷◌, map, codes, true, Option, Some}
 use Rattle.std.specs.Fmt.{decimal}
 use Rattle.std.proofs.Common.{ℤ}
 use Rattle.tbl_kinds.specs.Admitted.{Admitted, all_admitted}
@@ -11,7 +11,7 @@ use Rattle.tbl_session.specs.Orders.{ByActor}
 use Rattle.tbl_session.specs.Session.{Ran, Session, IsComplete}
 use Rattle.tbl_top.specs.Drilling.{Drills, DrillsThrough}
 use Rattle.tbl_maker.specs.Shapes.{is_shape, shape_word}
-use Rattle.tbl_top.specs.Failures.{TellsFailures}
+use Rattle.tbl_stream.specs.Reports.{TellsFailures}
 use Rattle.tbl_top.specs.InTurn.{Plays}
 use Rattle.tbl_top.specs.Listing.{ListsStore, ListsThrough}
 use Rattle.tbl_top.specs.Maker.{MakesFile, DescribesFile, MakesAlways, DescribesAlways}
@@ -45,6 +45,14 @@ given_bytes text = text.list
 
 abbrev pub Asks : List Buffer → Word → Admitted → Type 0
 Asks words word admit = Spells (map given_bytes words) word admit
+
+-- what was found is the one thing that these words spell
+abbrev pub IsFound : Option (Word × Admitted) → List (List ℕ) → Type 0
+IsFound found words = (given : Word) (admit : Admitted) → (found ≡ Some (given, admit)) ↔ Spells words given admit
+
+-- the words ask for nothing
+abbrev pub AskNothing : List Buffer → Type 0
+AskNothing words = (word : Word) (admit : Admitted) → ¬ Asks words word admit
 
 -- `describe` and one word more, for whose shape memory is taken
 abbrev pub AsksWithShape : List Buffer → Type 0
@@ -87,3 +95,7 @@ abbrev pub HasThreads : Word → Type 0
 HasThreads Crew = Unit {0}
 HasThreads Watch = Unit {0}
 HasThreads _ = ⊥
+
+-- the words ask for nothing else
+abbrev pub AskForThreads : List Buffer → Type 0
+AskForThreads words = (word : Word) (admit : Admitted) → Asks words word admit → HasThreads word

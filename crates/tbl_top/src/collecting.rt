@@ -1,30 +1,35 @@
 //! Reads all records of an input, by their actors, before any of them is played.
 
-ghost use Rattle.std.specs.Prelude.{◌≡◌, ◌==◌, ◌<◌, ◌≤◌, ◌+◌, List, Some, ℕ, [], ◌++◌, length, IfOk, MatchOption};
-ghost use Rattle.std.specs.Io.KnownBytes.{prepend_known, IsAtEnd};
+ghost use Rattle.std.specs.Prelude.{◌≡◌, ◌==◌, ◌≤◌, ◌+◌, List, Some, ℕ, [], ◌++◌, length, IfOk, MatchOption};
 ghost use Rattle.tbl_kinds.specs.Records.{Pair};
-ghost use Rattle.tbl_top.specs.Collecting.{HasTaken, TakesMore, TakesNone, TakesOne, failed_of, scripts_of};
-ghost use Rattle.tbl_top.specs.Reading.{HasRead, ReadsFrom};
 ghost use Rattle.tbl_session.specs.Inputs.{piece_limit};
-ghost use Rattle.tbl_top.specs.Standing.{IsOfInput};
-ghost use Rattle.tbl_top.specs.declared.playback.Standing.TheVariants.{Open};
+ghost use Rattle.tbl_stream.specs.Reading.{ReadsFrom};
+ghost use Rattle.tbl_stream.specs.Standing.{IsOfInput};
+ghost use Rattle.tbl_stream.specs.declared.standing.Standing.TheVariants.{Open};
+ghost use Rattle.tbl_top.specs.Collecting.{Collects, CollectsPiece, HasTaken, TakesNone, TakesOne, failed_of};
 
-use crate::playback::{RECORD_LIMIT, Standing};
-use crate::reading::{MOST_READS, PIECE_LENGTH};
-use session_records::{Next, drop_front, next_record};
+use session_records::drop_front;
 use std::alloc::Global;
 use std::marker::Model;
 use tbl_crew::Scripts;
 use tbl_kinds::{Memory, Request};
 use tbl_outside::{Failed, Source};
+use tbl_stream::{PIECE_LENGTH, Standing, next_item};
+
+/// The most records of a session.
+pub(crate) const RECORD_LIMIT: u32 = 32_768;
+
+/// More reads than a session can need: each takes a byte, and a session has at most 32,768 records of at most 32,836
+/// bytes, and the beginning of one more.
+const MOST_READS: u32 = 1_076_100_000;
 
 /// The records that were read, and the beginning of a further one.
 #[derive(Drop)]
 pub(crate) struct Collector {
     alloc: Global,
     scripts: Scripts,
-    /// How many records there are.
-    count: usize,
+    /// How many records may follow.
+    left: u32,
     /// The beginning of a record that isn't whole yet.
     kept: Vec<u8>,
 }
@@ -34,12 +39,7 @@ impl Model for Collector {
 
     ghost Value = { Collecting };
 
-    ghost use Rattle.std.specs.Prelude.{◌≤◌};
-    ghost use Rattle.tbl_kinds.specs.Records.{record_limit};
-
-    ghost view = { λ c. record { scripts = c.scripts; count = c.count; rest = c.kept.items } };
-
-    ghost invariant = { λ c. c.count ≤ record_limit };
+    ghost view = { λ c. record { scripts = c.scripts; left = c.left; rest = c.kept.items } };
 }
 
 impl Collector {
@@ -50,7 +50,7 @@ impl Collector {
         Ok(Collector {
             alloc,
             scripts: Scripts::make(alloc)?,
-            count: 0,
+            left: RECORD_LIMIT,
             kept: Vec::new(alloc),
         })
     }
@@ -62,24 +62,15 @@ impl Collector {
         ensures rest { self.new.rest ≡ self.old.rest }
         ensures takes { MatchOption result (TakesOne at.old at.new self.old self.new) (λ standing. TakesNone standing at.old at.new self.old self.new) }
     {
-        let rest = &self.kept.as_slice()[*at..];
-        if self.count == RECORD_LIMIT {
-            return Some(if rest.is_empty() {
-                Standing::Open
-            } else {
-                Standing::Full
-            });
-        }
         let mut request = Request::Exit;
-        match next_record(self.alloc, rest, &mut request) {
-            Err(Memory) => Some(Standing::Memory),
-            Ok(Next::End) | Ok(Next::Short) => Some(Standing::Open),
-            Ok(Next::Bad) => Some(Standing::Bad),
-            Ok(Next::Item { actor, used }) => match self.scripts.push(actor, request) {
+        let rest = &self.kept.as_slice()[*at..];
+        match next_item(self.alloc, Some(self.left), rest, &mut request) {
+            Err(standing) => Some(standing),
+            Ok((actor, used)) => match self.scripts.push(actor, request) {
                 Err(Memory) => Some(Standing::Memory),
                 Ok(()) => {
                     *at += used;
-                    self.count += 1;
+                    self.left -= 1;
                     None
                 }
             },
@@ -113,9 +104,7 @@ impl Collector {
     ) -> Option<(Standing, bool)>
         requires room { length piece.old ≡ piece_limit }
         ensures room { length piece.new ≡ piece_limit }
-        ensures reads { (read : List ℕ) × (S.left source.old ≡ prepend_known read (S.left source.new))
-            × ((fed : List ℕ) (most : ℕ) (pairs : List Pair) → HasTaken Open fed most pairs self.old → TakesMore result (fed ++ read) self.new (0 < length read) (IsAtEnd (S.left source.new))) }
-        ensures input { MatchOption result (Unit {0}) (λ ended. IsOfInput ended.0) }
+        ensures reads { CollectsPiece result self.old self.new (S.left source.old) (S.left source.new) }
         ensures source { ReadsFrom S.Source (failed_of result) source.old source.new }
     {
         match source.read(piece) {
@@ -131,9 +120,7 @@ impl Collector {
     /// Reads an input to its end, or to what is no record, and answers its standing then and whether a read failed.
     pub(crate) fn read_all<S: Source>(&mut self, source: &mut S) -> (Standing, bool)
         requires fresh { HasTaken Open [] 0 [] self.old }
-        ensures reads { (read : List ℕ) × (S.left source.old ≡ prepend_known read (S.left source.new))
-            × (pairs : List Pair) × (self.new.scripts ≡ scripts_of pairs) × HasRead result.0 pairs self.new.rest read result.1 (IsAtEnd (S.left source.new)) }
-        ensures input { IsOfInput result.0 }
+        ensures reads { Collects result self.new (S.left source.old) (S.left source.new) }
         ensures source { ReadsFrom S.Source (Some result.1) source.old source.new }
     {
         let mut piece = [0u8; PIECE_LENGTH];

@@ -6,17 +6,15 @@ ghost use Rattle.tbl_kinds.specs.Places.{bank_size};
 ghost use Rattle.tbl_kinds.specs.Records.{Pair, IsRecord, record_limit};
 ghost use Rattle.tbl_kinds.specs.Transcript.{pairs_of};
 ghost use Rattle.tbl_history.specs.Serving.{Continues};
-ghost use Rattle.tbl_top.specs.Drilling.{Drills, summary, unread};
-ghost use Rattle.tbl_top.specs.Finishing.{status_of};
+ghost use Rattle.tbl_stream.specs.Finishing.{status_of};
+ghost use Rattle.tbl_stream.specs.Opening.{MayStart, opening_by};
+ghost use Rattle.tbl_stream.specs.Standing.{TellsBoot};
+ghost use Rattle.tbl_stream.specs.Writing.{taken_of};
+ghost use Rattle.tbl_stream.specs.declared.standing.Standing.TheVariants.{Open};
+ghost use Rattle.tbl_top.specs.Drilling.{Drills, IsOfScript, summary, unread};
 ghost use Rattle.tbl_top.specs.Listing.{TellsText};
-ghost use Rattle.tbl_top.specs.Standing.{IsOfScript, TellsBoot};
-ghost use Rattle.tbl_top.specs.Starting.{MayStart, opening_by};
-ghost use Rattle.tbl_top.specs.declared.playback.Standing.TheVariants.{Open};
 
-use crate::finishing::{NO_MEMORY, end_status, unbegun_status};
 use crate::listing::write_text;
-use crate::playback::Standing;
-use crate::service::Service;
 use crate::stepping::step;
 use crate::summary::sum_up;
 use std::alloc::Global;
@@ -25,6 +23,7 @@ use tbl_drill::{Scripted, drill_session};
 use tbl_history::start;
 use tbl_kinds::{Admit, Memory};
 use tbl_outside::{Back, Bank, Sink, Validator};
+use tbl_stream::{NO_MEMORY, Service, Standing, end_status, unbegun_status};
 
 /// Plays a script to its end, or to the request with which a boot ended the service, or for which memory ran out.
 fn play_script<B: Bank, C: Validator>(core: &mut Core<B, C>, script: &mut Scripted) -> Standing
@@ -34,7 +33,7 @@ fn play_script<B: Bank, C: Validator>(core: &mut Core<B, C>, script: &mut Script
     ensures known { IsOfScript result }
     ensures plays { (left : List Pair) × (pairs_of core.old.entries ++ script.old ≡ pairs_of core.new.entries ++ left) × (result ≡ Open → left ≡ []) }
     ensures continues { Continues B.Bank C.verdict core.old core.new }
-    ensures boot { TellsBoot result core.new }
+    ensures boot { TellsBoot result core.new.state.ended core.new.entries }
 {
     'records: while let Some((actor, request)) = script.next() {
         match step(core, actor, request) {
@@ -54,7 +53,7 @@ fn tell_summary<B: Bank, C: Validator, K: Sink>(
     sink: &mut K,
 ) -> u8
     requires known { IsOfScript standing }
-    ensures told { TellsText result (summary core.now.entries) (K.taken sink.old, K.faults sink.old) (K.taken sink.new, K.faults sink.new) }
+    ensures told { TellsText result (summary core.now.entries) (taken_of K.Sink sink.old) (taken_of K.Sink sink.new) }
     ensures played { standing ≡ Open → (result ≡ 0) ⊎ (result ≡ 1) ⊎ (result ≡ 4) }
     ensures ended { standing ≢ Open → result ≡ status_of standing false true }
 {

@@ -5,12 +5,11 @@ ghost use Rattle.tbl_kinds.specs.Admitted.{Admitted};
 ghost use Rattle.tbl_kinds.specs.Places.{bank_size};
 ghost use Rattle.tbl_outside.specs.Streams.{ReadsToEnd};
 ghost use Rattle.tbl_session.specs.Session.{ran};
-ghost use Rattle.tbl_top.specs.Starting.{MayStart, opening_by};
-ghost use Rattle.tbl_top.specs.Words.{Asks, IsUnknown, Outcome, Completes, ReadsNothing};
+ghost use Rattle.tbl_stream.specs.Opening.{MayStart, opening_by};
+ghost use Rattle.tbl_top.specs.Words.{AskNothing, Asks, IsUnknown, Outcome, Completes, ReadsNothing};
 ghost use Rattle.tbl_top.specs.declared.words.Word.{Word as CommandWord};
 
 use crate::crewing::run_crew;
-use crate::service::Service;
 use crate::session::run_in_order;
 use crate::watching::run_watch;
 use crate::words::{Telling, threads_of};
@@ -18,6 +17,7 @@ use std::sync::Wait;
 use std::thread::Threads;
 use tbl_kinds::Bytes;
 use tbl_outside::{Bank, Gate, Sink, Source, Validator};
+use tbl_stream::Service;
 
 /// Does what the words ask for. `play` and `crew` boot over the bank as after a reset of the processor, read session records from the
 /// source, play them, and write the transcript to the sink: with `play` in order, as they come in, with `crew` with a thread for each
@@ -44,9 +44,9 @@ pub fn run<
     requires may_start { MayStart B.Bank C.Validator service }
     // 2 comes only if it doesn't know the words. It always comes then, unless memory runs out for the word after `describe`. Nothing is
     // read or written then.
-    ensures usage { result.0 ≡ 2 → (word : CommandWord) (admit : Admitted) → ¬ Asks words.now word admit }
-    ensures unknown { ((word : CommandWord) (admit : Admitted) → ¬ Asks words.now word admit) → IsUnknown words.now result.0 }
-    ensures untouched { ((word : CommandWord) (admit : Admitted) → ¬ Asks words.now word admit) → (source.new ≡ source.old) × (sink.new ≡ sink.old) × (result.1 ≡ service.bank) }
+    ensures usage { result.0 ≡ 2 → AskNothing words.now }
+    ensures unknown { AskNothing words.now → IsUnknown words.now result.0 }
+    ensures untouched { AskNothing words.now → (source.new ≡ source.old) × (sink.new ≡ sink.old) × (result.1 ≡ service.bank) }
 
     // If the word needs no records, the source isn't read. Nothing is read after the end of the input or after a read that failed.
     ensures unread { (word : CommandWord) (admit : Admitted) → Asks words.now word admit → ReadsNothing word → source.new ≡ source.old }

@@ -3,13 +3,13 @@
 ghost use Rattle.std.specs.Prelude.{◌≡◌, IfOk, OnOk, OnErr};
 ghost use Rattle.tbl_kinds.specs.Requests.{Fits};
 ghost use Rattle.tbl_history.specs.Serving.{Continues};
-ghost use Rattle.tbl_top.specs.Playing.{AddsEntry, MayPlayOne};
-ghost use Rattle.tbl_top.specs.Standing.{IsEnding, TellsService};
+ghost use Rattle.tbl_stream.specs.Standing.{IsEnding, TellsBoot, standing_after};
+ghost use Rattle.tbl_top.specs.Drilling.{AddsEntry, MayPlayOne};
 
-use crate::playback::Standing;
 use tbl_core::{Core, StepFault};
 use tbl_kinds::{Actor, Memory, Request};
 use tbl_outside::{Bank, Validator};
+use tbl_stream::Standing;
 
 /// Plays a request. `Ok(None)` if a further one may follow, `Ok(Some(..))` if a boot in it failed or was stopped.
 #[inline(always)]
@@ -23,7 +23,7 @@ pub(crate) fn step<B: Bank, C: Validator>(
     ensures adds { OnOk result (AddsEntry core.old.entries core.new.entries actor request) }
     ensures continues { OnOk result (Continues B.Bank C.verdict core.old core.new) }
     ensures ending { IfOk result IsEnding }
-    ensures boot { IfOk result (λ stop. TellsService stop core.new) }
+    ensures boot { IfOk result (λ stop. TellsBoot (standing_after stop) core.new.state.ended core.new.entries) }
     ensures err { OnErr result (core.new ≡ core.old) }
 {
     match core.step(actor, request) {

@@ -7,17 +7,17 @@ ghost use Rattle.tbl_outside.specs.declared.validator.KitEntry.{KitEntry as Entr
 ghost use Rattle.tbl_session.specs.Session.{IsEnded, opening_of, ran, state_from};
 ghost use Rattle.tbl_top.specs.Histories.{PlaysSession, Runs};
 ghost use Rattle.tbl_top.specs.Recovered.{RecoversBoth, RecoversLast, StaysUp};
-ghost use Rattle.tbl_top.specs.Starting.{MayStart, opening_by};
+ghost use Rattle.tbl_stream.specs.Opening.{MayStart, opening_by};
 ghost use Rattle.tbl_top.specs.Words.{Asks};
 ghost use Rattle.tbl_top.specs.declared.words.Word.{Word as CommandWord};
 
 use crate::running::run;
-use crate::service::Service;
 use std::snapshot::Snapshot;
 use std::sync::Wait;
 use std::thread::Threads;
 use tbl_kinds::Bytes;
 use tbl_outside::{Bank, Gate, KitEntry, Sink, Source, Validator};
+use tbl_stream::Service;
 
 /// What a run is given beside its service: its words, the source that it reads and the sink that it writes to.
 #[derive(Drop)]

@@ -1,27 +1,27 @@
 //! Plays the records of an input with a thread for each actor, and reports the images that application 16 got.
 
-ghost use Rattle.std.specs.Prelude.{◌≡◌, ◌≢◌, ◌≤◌, [], IfOk, IfErr};
+ghost use Rattle.std.specs.Prelude.{◌≡◌, ◌≤◌, [], IfOk, IfErr};
 ghost use Rattle.tbl_kinds.specs.Places.{bank_size};
 ghost use Rattle.tbl_outside.specs.Streams.{ReadsToEnd};
 ghost use Rattle.table_watch.specs.Report.{report};
 ghost use Rattle.tbl_session.specs.Openings.{Opening};
 ghost use Rattle.tbl_session.specs.Session.{ran};
 ghost use Rattle.tbl_history.specs.Serving.{Serves};
+ghost use Rattle.tbl_stream.specs.Finishing.{status_of};
+ghost use Rattle.tbl_stream.specs.Opening.{FailsToStart, MayStart, opening_by};
+ghost use Rattle.tbl_stream.specs.Standing.{all_written, way_of};
+ghost use Rattle.tbl_stream.specs.Writing.{taken_of};
+ghost use Rattle.tbl_stream.specs.declared.standing.Standing.TheVariants.{Open};
 ghost use Rattle.tbl_top.specs.Collecting.{HasTaken};
-ghost use Rattle.tbl_top.specs.Finishing.{status_of};
 ghost use Rattle.tbl_top.specs.Listing.{TellsText};
-ghost use Rattle.tbl_top.specs.Starting.{MayStart, HasBegun, IsFresh, FailsToStart, opening_by};
+ghost use Rattle.tbl_top.specs.Starting.{HasBegun, IsFresh};
 ghost use Rattle.tbl_top.specs.Watching.{ReportsAs, fault_of};
 ghost use Rattle.tbl_top.specs.Words.{Outcome};
-ghost use Rattle.tbl_top.specs.declared.playback.Standing.TheVariants.{Open, SinkFailed};
 ghost use Rattle.tbl_top.specs.declared.words.Word.TheVariants.{Watch as WatchWord};
 
 use crate::collecting::Collector;
-use crate::crewing::standing_behind;
-use crate::finishing::{DONE, NO_MEMORY, end_status, unbegun_status};
 use crate::listing::write_text;
-use crate::playback::Standing;
-use crate::service::Service;
+use crate::telling::standing_behind;
 use std::alloc::Global;
 use std::sync::Wait;
 use std::thread::Threads;
@@ -31,6 +31,7 @@ use tbl_crew::{WatchEnd, crew_watched};
 use tbl_history::start;
 use tbl_kinds::{Admit, Memory};
 use tbl_outside::{Back, Bank, Gate, Sink, Source, Validator};
+use tbl_stream::{DONE, NO_MEMORY, Service, Standing, end_status, unbegun_status};
 
 /// The fault as which what ended a watched crew counts.
 fn fault_of(end: Option<WatchEnd>) -> Option<StepFault>
@@ -51,8 +52,8 @@ fn tell_report<K: Sink>(
     is_whole: bool,
     sink: &mut K,
 ) -> u8
-    requires known { standing ≢ SinkFailed }
-    ensures told { TellsText result (report watch.now) (K.taken sink.old, K.faults sink.old) (K.taken sink.new, K.faults sink.new) }
+    requires known { way_of standing ≡ all_written }
+    ensures told { TellsText result (report watch.now) (taken_of K.Sink sink.old) (taken_of K.Sink sink.new) }
     ensures ends { ReportsAs (status_of standing read_failed is_whole) result }
     ensures count { K.faults sink.old ≤ K.faults sink.new }
 {

@@ -1,8 +1,8 @@
 //! The words of the command line.
 
-ghost use Rattle.std.specs.Prelude.{◌≡◌, ◌↔◌, Some, ◌∷◌, [], codes, IfOk, IfErr};
+ghost use Rattle.std.specs.Prelude.{◌≡◌, ◌↔◌, Some, ◌∷◌, [], codes, map, IfOk, IfErr};
 ghost use Rattle.tbl_kinds.specs.Admitted.{Admitted, all_admitted};
-ghost use Rattle.tbl_top.specs.Words.{Asks, AsksWithShape, HasThreads, Spells};
+ghost use Rattle.tbl_top.specs.Words.{Asks, AsksWithShape, HasThreads, IsFound, Spells, given_bytes};
 ghost use Rattle.tbl_top.specs.declared.words.Word.{Word as CommandWord};
 ghost use Rattle.tbl_top.specs.declared.words.Word.TheVariants.{Crew, Watch};
 ghost use Rattle.tbl_top.specs.declared.words.Telling.TheVariants.{Report, Transcript};
@@ -76,7 +76,7 @@ fn four_words(
     spacecraft: &[u8],
     processors: &[u8],
 ) -> Option<(Word, Admit)>
-    ensures { (given : CommandWord) (admit : Admitted) → (result ≡ Some (given, admit)) ↔ Spells (word.now ∷ more.now ∷ spacecraft.now ∷ processors.now ∷ []) given admit }
+    ensures { IsFound result (word.now ∷ more.now ∷ spacecraft.now ∷ processors.now ∷ []) }
 {
     if more != b"admit".as_slice() {
         return None;
@@ -100,21 +100,21 @@ fn admitting_all(word: Option<Word>) -> Option<(Word, Admit)>
 
 /// What one word asks for.
 fn one_word(word: &[u8]) -> Option<(Word, Admit)>
-    ensures { (given : CommandWord) (admit : Admitted) → (result ≡ Some (given, admit)) ↔ Spells (word.now ∷ []) given admit }
+    ensures { IsFound result (word.now ∷ []) }
 {
     admitting_all(lone_word(word))
 }
 
 /// What three words ask for.
 fn three_words(word: &[u8], seed: &[u8], rounds: &[u8]) -> Option<(Word, Admit)>
-    ensures { (given : CommandWord) (admit : Admitted) → (result ≡ Some (given, admit)) ↔ Spells (word.now ∷ seed.now ∷ rounds.now ∷ []) given admit }
+    ensures { IsFound result (word.now ∷ seed.now ∷ rounds.now ∷ []) }
 {
     admitting_all(drill_of(word, seed, rounds))
 }
 
 /// What two words ask for: to describe a table file. Memory may run out for the shape.
 fn two_words(alloc: Global, word: &[u8], shape: &[u8]) -> Result<Option<(Word, Admit)>, Memory>
-    ensures told { IfOk result (λ found. (given : CommandWord) (admit : Admitted) → (found ≡ Some (given, admit)) ↔ Spells (word.now ∷ shape.now ∷ []) given admit) }
+    ensures told { IfOk result (λ found. IsFound found (word.now ∷ shape.now ∷ [])) }
     ensures memory { IfErr result (λ _. word.now ≡ codes "describe") }
 {
     if word != b"describe".as_slice() {
@@ -129,7 +129,7 @@ fn two_words(alloc: Global, word: &[u8], shape: &[u8]) -> Result<Option<(Word, A
 /// What the words ask for, and the spacecraft and processors that files are admitted from then; None if the program doesn't know them.
 /// Memory may run out for a shape.
 pub(crate) fn word_of(alloc: Global, words: &[Bytes]) -> Result<Option<(Word, Admit)>, Memory>
-    ensures told { IfOk result (λ found. (given : CommandWord) (admit : Admitted) → (found ≡ Some (given, admit)) ↔ Asks words.now given admit) }
+    ensures told { IfOk result (λ found. IsFound found (map given_bytes words.now)) }
     ensures memory { IfErr result (λ _. AsksWithShape words.now) }
 {
     match words {

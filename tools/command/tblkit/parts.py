@@ -2,13 +2,13 @@
 # The fronts of the symbols of a part's functions. Of several that fit the longest counts.
 PARTS = {
     "reading": ("session_records", "cmd_packets", "table_files", "read"),
-    "step": ("tbl_core::playing", "tbl_core::service", "tbl_core::log", "tbl_top"),
+    "step": ("tbl_core::playing", "tbl_core::service", "tbl_core::log", "tbl_stream", "tbl_top"),
     "dispatch": ("tbl_core", "request_effects"),
     "request": ("desk", "load_requests", "update_requests", "dump_requests", "address_requests", "store_requests", "tbl_registry", "sharing",
                 "access_desc", "buffer_pairs", "validation", "file_drawer"),
     "store": ("cds_store", "cds_layout", "cds_pool", "check_word", "tbl_adapters", "pread", "pread64", "pwrite", "pwrite64"),
     "packets": ("reply_packets", "tlm_packets", "cfe_headers"),
-    "writing": ("tbl_top::writing", "transcript", "write"),
+    "writing": ("tbl_stream::writing", "transcript", "write"),
     "memory": ("malloc", "_int_malloc", "free", "_int_free", "realloc", "_int_realloc", "unlink_chunk", "alloc_perturb",
                "rattle_alloc", "rattle_dealloc", "rattle_realloc"),
     "copies": ("__memcpy", "__memmove", "__memset", "__memcmp"),

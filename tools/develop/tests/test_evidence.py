@@ -103,10 +103,10 @@ class Claims(unittest.TestCase):
 
     def test_promises(self):
         self.assertEqual(self.faults_of(0, "All is right"), "")
-        self.assertEqual(self.faults_of(4, "`tbl_top/wrong-bodies/bad_record_is_short`"), "")
+        self.assertEqual(self.faults_of(4, "`tbl_stream/wrong-bodies/bad_record_is_the_end`"), "")
         for cell, said, fault in ((1, "`walk` of `tbl_top`", "tbl_top::walk, outcome"), (1, "-", "outcome, function"), (2, "`income`", "income"), (2, "-", "clause"),
                                   (3, "`regal` of `IsServed`", "regal of IsServed"), (4, "`tbl_core/no_edit`", "tbl_core/no_edit"),
-                                  (4, "`tbl_top/bad_record_is_short`", "tbl_top/bad_record_is_short"), (4, "-", "wrong body")):
+                                  (4, "`tbl_stream/bad_record_is_the_end`", "tbl_stream/bad_record_is_the_end"), (4, "-", "wrong body")):
             with self.subTest(said=said):
                 self.assertTrue(self.faults_of(cell, said).endswith(f"All is right: there is no {fault}"), self.faults_of(cell, said))
 

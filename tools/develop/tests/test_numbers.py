@@ -19,7 +19,7 @@ TOOL = os.path.join("tools", "develop", "gate", "check-numbers")
 # A file, what stands there, what is put in its place, and what is said of that.
 EDITS = (
     ("crates/tbl_kinds/specs/Records.antt", "record_limit = 32768", "record_limit = 32767", "`records of a session`, record_limit of tbl_kinds"),
-    ("crates/tbl_top/src/playback.rt", "RECORD_LIMIT: usize = 32_768", "RECORD_LIMIT: usize = 32_769", "RECORD_LIMIT of tbl_top"),
+    ("crates/tbl_top/src/collecting.rt", "RECORD_LIMIT: u32 = 32_768", "RECORD_LIMIT: u32 = 32_769", "RECORD_LIMIT of tbl_top"),
     ("crates/tbl_kinds/src/status.rt", "ERR_BAD_APP: Status = Status(32)", "ERR_BAD_APP: Status = Status(31)", "statuses of tbl_kinds"),
     ("crates/tbl_kinds/specs/Records.antt", "kind_of ask.Exit = 0x21", "kind_of ask.Exit = 0x22", "kinds of records of tbl_kinds"),
     ("crates/tbl_kinds/specs/Records.antt", "= two handle ++ four offset ++ four len", "= two handle ++ four offset ++ two len", "body of Read"),

@@ -9,8 +9,3 @@ returns-in-Err-clause-err g c = let b = g.B.Bank in record {
   counted = search rules;
   room = c.requires.may_start.room;
 }
-
-pub returns-in_ok-begin-in-Ok-clause-begun : goal.returns-in_ok-begin-in-Ok-clause-begun
-returns-in_ok-begin-in-Ok-clause-begun g c =
-    let begun = c.in_ok-begin-in-Ok.ensures in
-    rw c.playback.ensures (record { empty = begun.unfed.empty; live = begun.unfed.live; serves = begun.serves })

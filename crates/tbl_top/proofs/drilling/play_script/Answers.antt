@@ -4,8 +4,8 @@ use Rattle.std.specs.List.{AllByRecursion}
 use Rattle.tbl_kinds.specs.Records.{Pair, IsRecord}
 use Rattle.tbl_history.proofs.ServingLemmas.{then_continues}
 use Rattle.tbl_kinds.specs.declared.entry.Entry.{Entry}
-use Rattle.tbl_top.specs.Standing.{IsEnding, TellsService}
-use Rattle.tbl_top.specs.declared.playback.Standing.{Standing}
+use Rattle.tbl_stream.specs.Standing.{IsEnding, TellsBoot, standing_after}
+use Rattle.tbl_stream.specs.declared.standing.Standing.{Standing}
 use Rattle.tbl_top.proofs.DrillLemmas.{plays_more, ending_of_script}
 use Rattle.tbl_top.proofs.drilling.play_script.Goals as goal
 
@@ -30,7 +30,7 @@ records-preserved g c =
       records = all.1;
       few = omega (arith, c.records.invariant.few, ap (λ (entries : List Entry). length entries) one.1, length-append c.records.core.entries (one.0 ∷ []), ap (λ (script : List Pair). length script) parts);
       continues = then_continues g.B.Bank g.C.Validator.verdict _ _ _ c.records.invariant.continues c.in-Ok-None.ensures.continues;
-      live = subst (λ (s : Option Standing). TellsService s c.step.new.core) c.in-Ok-None.field-0-is c.in-Ok-None.ensures.boot;
+      live = subst (λ (s : Option Standing). TellsBoot (standing_after s) c.step.new.core.state.ended c.step.new.core.entries) c.in-Ok-None.field-0-is c.in-Ok-None.ensures.boot;
     }
 
 pub step-requires-clause-may_play : goal.step-requires-clause-may_play

@@ -5,7 +5,7 @@ use Rattle.tbl_core.proofs.Starting.{stays_shown}
 use Rattle.tbl_core.specs.declared.service.StartFault.TheVariants.{Memory as NoMemory}
 use Rattle.tbl_history.proofs.Laws.{Laws}
 use Rattle.tbl_history.proofs.ServingLemmas.{serves_on}
-use Rattle.tbl_top.specs.Starting.{opening_by}
+use Rattle.tbl_stream.specs.Opening.{opening_by}
 use Rattle.tbl_top.specs.Drilling.{unread}
 use Rattle.tbl_top.proofs.DrillLemmas.{drilled, undrilled}
 use Rattle.tbl_history.proofs.Openings.{first_opening}

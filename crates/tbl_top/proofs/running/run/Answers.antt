@@ -1,7 +1,7 @@
 use Rattle.std.proofs.Common.{◌≡◌, Option, Some, ap, ◌∙◌}
 use Rattle.tbl_session.specs.Orders.{ByActor}
 use Rattle.tbl_session.specs.Session.{ran}
-use Rattle.tbl_top.specs.Starting.{opening_by}
+use Rattle.tbl_stream.specs.Opening.{opening_by}
 use Rattle.tbl_top.specs.Watching.{Watched, but_for_sink}
 use Rattle.tbl_top.specs.Words.{Completes, Outcome, ReadsNothing}
 use Rattle.tbl_top.specs.declared.words.Telling.{Telling}

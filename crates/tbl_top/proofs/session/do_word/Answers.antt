@@ -1,7 +1,7 @@
 use Rattle.std.proofs.Common.{None, refl, sym, subst}
 use Rattle.tbl_outside.proofs.Streams.{unread}
 use Rattle.tbl_session.specs.Session.{ran}
-use Rattle.tbl_top.specs.Starting.{opening_by}
+use Rattle.tbl_stream.specs.Opening.{opening_by}
 use Rattle.maker_words.proofs.Answering.{makes_not_usage, describes_not_usage}
 use Rattle.tbl_top.specs.InTurn.{InTurn}
 use Rattle.tbl_top.specs.Words.{Completes, HasThreads, Outcome}
@@ -9,13 +9,14 @@ use Rattle.tbl_top.specs.declared.words.Word.{Word}
 use Rattle.tbl_top.proofs.CompletenessLemmas.{complete}
 use Rattle.tbl_top.proofs.DrillLemmas.{drills_not_usage, drills_through}
 use Rattle.tbl_top.proofs.ListingLemmas.{lists_not_usage, lists_through}
-use Rattle.tbl_top.proofs.StatusLemmas.{known_not_usage}
+use Rattle.tbl_stream.proofs.StatusLemmas.{known_not_usage}
+use Rattle.tbl_top.proofs.SessionLemmas.{played}
 use Rattle.tbl_top.proofs.session.do_word.Goals as goal
 
 -- ---- play
 
 pub returns-in-Play-clause-usage : goal.returns-in-Play-clause-usage
-returns-in-Play-clause-usage g c two = absurd (known_not_usage _ c.play_in_order.ensures.outcome.0.known two)
+returns-in-Play-clause-usage g c two = absurd (known_not_usage _ c.play_records.ensures.lives.reports.known two)
 
 pub returns-in-Play-clause-threads : goal.returns-in-Play-clause-threads
 returns-in-Play-clause-threads g c threads = absurd (subst HasThreads c.in-Play.is threads)
@@ -23,15 +24,17 @@ returns-in-Play-clause-threads g c threads = absurd (subst HasThreads c.in-Play.
 pub returns-in-Play-clause-outcome : goal.returns-in-Play-clause-outcome
 returns-in-Play-clause-outcome g c other =
     let b = g.B.Bank in
-    let r = ran g.S.Source g.K.Sink (c.args.source.now, c.args.sink.now) (c.play_in_order.new.source, c.play_in_order.new.sink) c.play_in_order.result in
-    subst (λ (w : Word). Outcome w b g.C.Validator.verdict (opening_by b c.args.service c.args.admit) r) (sym c.in-Play.is) c.play_in_order.ensures.outcome
+    let o = opening_by b c.args.service c.args.admit in
+    let r = ran g.S.Source g.K.Sink (c.args.source.now, c.args.sink.now) (c.play_records.new.source, c.play_records.new.sink) c.play_records.result in
+    subst (λ (w : Word). Outcome w b g.C.Validator.verdict o r) (sym c.in-Play.is) (played b g.C.Validator.verdict o r c.play_records.ensures.lives)
 
 pub returns-in-Play-clause-complete : goal.returns-in-Play-clause-complete
 returns-in-Play-clause-complete g c other =
     let b = g.B.Bank in
-    let r = ran g.S.Source g.K.Sink (c.args.source.now, c.args.sink.now) (c.play_in_order.new.source, c.play_in_order.new.sink) c.play_in_order.result in
+    let o = opening_by b c.args.service c.args.admit in
+    let r = ran g.S.Source g.K.Sink (c.args.source.now, c.args.sink.now) (c.play_records.new.source, c.play_records.new.sink) c.play_records.result in
     subst (λ (w : Word). Completes w b c.args.service.bank r) (sym c.in-Play.is)
-    (complete (InTurn r) b g.C.Validator.verdict (opening_by b c.args.service c.args.admit) r c.play_in_order.ensures.outcome.0)
+    (complete (InTurn r) b g.C.Validator.verdict o r (played b g.C.Validator.verdict o r c.play_records.ensures.lives).0)
 
 -- ---- store
 

@@ -1,7 +1,7 @@
 use Rattle.std.proofs.Common.{◌≡◌, inl, inr, refl}
 use Rattle.tbl_outside.proofs.Streams.{unread}
 use Rattle.tbl_session.specs.Session.{ran}
-use Rattle.tbl_top.specs.Starting.{opening_by}
+use Rattle.tbl_stream.specs.Opening.{opening_by}
 use Rattle.tbl_top.specs.Words.{Completes, HasThreads, Outcome, ReadsNothing}
 use Rattle.tbl_top.proofs.MakerLemmas.{starved, starved_through}
 use Rattle.tbl_top.proofs.WordsLemmas.{drill_rounds, of_found, found_asked}

@@ -3,7 +3,7 @@ use Rattle.cds_layout.proofs.SingleBlocks.{store-single}
 use Rattle.tbl_kinds.specs.Buffers.{Buffer}
 use Rattle.tbl_session.specs.Recovery.{IsHistory}
 use Rattle.tbl_session.specs.Session.{opening_of, ran}
-use Rattle.tbl_top.specs.Starting.{opening_by}
+use Rattle.tbl_stream.specs.Opening.{opening_by}
 use Rattle.tbl_top.specs.Histories.{history_of}
 use Rattle.tbl_top.specs.Words.{Asks}
 use Rattle.tbl_top.proofs.HistoryLemmas.{served_of, answered_of, up}

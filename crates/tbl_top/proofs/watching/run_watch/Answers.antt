@@ -3,7 +3,7 @@ use Rattle.tbl_outside.proofs.Streams.{unread}
 use Rattle.tbl_session.specs.Session.{ran}
 use Rattle.tbl_history.proofs.Laws.{Laws}
 use Rattle.tbl_history.proofs.Openings.{first_opening}
-use Rattle.tbl_top.specs.Starting.{opening_by}
+use Rattle.tbl_stream.specs.Opening.{opening_by}
 use Rattle.tbl_top.proofs.WatchingLemmas.{unwatched}
 use Rattle.tbl_top.proofs.watching.run_watch.Goals as goal
 

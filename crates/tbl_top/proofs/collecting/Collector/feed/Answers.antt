@@ -1,6 +1,5 @@
 use Rattle.std.proofs.Common.{◌+◌, ◌≤◌, ◌∷◌, ◌++◌, ◌∙◌, [], length, drop, ap, subst, arith, rules}
 use Rattle.std.proofs.lemmas.List.{length-append}
-use Rattle.tbl_kinds.specs.Records.{record_limit}
 use Rattle.tbl_top.specs.Collecting.{Collecting}
 use Rattle.tbl_top.proofs.CollectingLemmas.{takes_next, takes_last}
 use Rattle.tbl_top.proofs.collecting.Collector.feed.Goals as goal
@@ -14,10 +13,10 @@ returns-in-Some-clause-takes c = λ fed most pairs taken.
     let same = c.self-in-records.view_is ∙ last.same in
     let before = c.records.invariant.takes fed most pairs taken in (
       before.0,
-      takes_last c.in-Some.standing (fed ++ piece) c.records.at (length rest + length piece) before.0 c.records.self (record { scripts = inside.scripts; count = inside.count; rest = c.drop_front.new.kept.items }) last.leaves
+      takes_last c.in-Some.standing (fed ++ piece) c.records.at (length rest + length piece) before.0 c.records.self (record { scripts = inside.scripts; left = inside.left; rest = c.drop_front.new.kept.items }) last.none.leaves
           (omega (arith, ap length c.records.invariant.rest, length-append rest piece))
           (ap (λ (v : Collecting). v.scripts) same)
-          (ap (λ (v : Collecting). v.count) same)
+          (ap (λ (v : Collecting). v.left) same)
           (c.drop_front.ensures ∙ ap (λ n. drop n inside.kept.items) last.stays ∙ ap (λ (v : Collecting). drop c.records.at v.rest) same)
           before.1,
     )
@@ -30,7 +29,6 @@ records-preserved c = record {
       let next = c.in_default.ensures.takes in
       let before = c.records.invariant.takes fed most pairs taken in (
         before.0 ++ next.pair ∷ [],
-        takes_next (fed ++ c.args.piece.now) c.records.at c.take_next.new.at before.0 c.records.self c.take_next.new.self next c.in_default.ensures.rest
-            (subst (λ (v : Collecting). v.count ≤ record_limit) c.self-in-records.view_is c.self-in-records.invariant) before.1,
+        takes_next (fed ++ c.args.piece.now) c.records.at c.take_next.new.at before.0 c.records.self c.take_next.new.self next c.in_default.ensures.rest before.1,
       );
 }

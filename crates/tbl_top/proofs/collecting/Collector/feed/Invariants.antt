@@ -1,7 +1,7 @@
 use Rattle.std.proofs.Common.{◌≡◌, ◌-◌, ℕ, ◌≤◌, List, ◌++◌, length}
 use Rattle.tbl_kinds.specs.Records.{Pair}
 use Rattle.tbl_top.specs.Collecting.{HasTaken}
-use Rattle.tbl_top.specs.declared.playback.Standing.TheVariants.{Open}
+use Rattle.tbl_stream.specs.declared.standing.Standing.TheVariants.{Open}
 use Rattle.tbl_top.proofs.CollectingLemmas.{IsTaking}
 use Rattle.tbl_top.proofs.collecting.Collector.feed.Given as goal
 

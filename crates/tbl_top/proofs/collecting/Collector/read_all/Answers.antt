@@ -8,8 +8,15 @@ pub returns-in-Some-clause-reads : goal.returns-in-Some-clause-reads
 returns-in-Some-clause-reads g c =
     let old = c.reads.invariant.takes in
     let one = c.in-Some.ensures.reads in
-    let ended = one.2 old.0 old.3 old.4 old.5 in
-    (old.0 ++ one.0, read_more (g.S.Source.left c.args.source.now) (g.S.Source.left c.reads.source) (g.S.Source.left c.read_piece.new.source) old.0 one.0 old.1 one.1, ended.0, ended.1, ended.2)
+    let ended = one.takes old.0 old.3 old.4 old.5 in
+    record {
+      read = old.0 ++ one.read;
+      came = read_more (g.S.Source.left c.args.source.now) (g.S.Source.left c.reads.source) (g.S.Source.left c.read_piece.new.source) old.0 one.read old.1 one.came;
+      pairs = ended.0;
+      scripts = ended.1;
+      has = ended.2;
+      input = one.input;
+    }
 
 pub reads-preserved : goal.reads-preserved
 reads-preserved g c = record {
@@ -17,10 +24,10 @@ reads-preserved g c = record {
   takes =
       let old = c.reads.invariant.takes in
       let one = c.in_default.ensures.reads in
-      let more = one.2 old.0 old.3 old.4 old.5 in (
-        old.0 ++ one.0,
-        read_more (g.S.Source.left c.args.source.now) (g.S.Source.left c.reads.source) (g.S.Source.left c.read_piece.new.source) old.0 one.0 old.1 one.1,
-        omega (arith, old.2, more.0, length-append old.0 one.0),
+      let more = one.takes old.0 old.3 old.4 old.5 in (
+        old.0 ++ one.read,
+        read_more (g.S.Source.left c.args.source.now) (g.S.Source.left c.reads.source) (g.S.Source.left c.read_piece.new.source) old.0 one.read old.1 one.came,
+        omega (arith, old.2, more.0, length-append old.0 one.read),
         more.1,
         more.2,
         more.3,

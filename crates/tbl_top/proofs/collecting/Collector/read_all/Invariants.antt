@@ -4,7 +4,7 @@ use Rattle.tbl_kinds.specs.Records.{Pair}
 use Rattle.tbl_top.specs.Collecting.{HasTaken}
 use Rattle.tbl_outside.specs.Streams.{ReadsOn}
 use Rattle.tbl_session.specs.Inputs.{piece_limit}
-use Rattle.tbl_top.specs.declared.playback.Standing.TheVariants.{Open}
+use Rattle.tbl_stream.specs.declared.standing.Standing.TheVariants.{Open}
 use Rattle.tbl_top.proofs.collecting.Collector.read_all.Given as goal
 
 abbrev pub invariant-reads : goal.invariant-reads
