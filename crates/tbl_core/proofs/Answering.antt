@@ -1,5 +1,5 @@
 -- A request was made in which no call of the store was stopped, and its entry has what it did.
-use Rattle.std.proofs.Common.{◌≡◌, ◌==◌, [], Bool, true, false, Option, Result, Ok, Err, refl, ap, subst, arith, inl}
+use Rattle.std.proofs.Common.{◌≡◌, ◌==◌, [], Bool, true, false, Option, Result, Ok, Err, refl, sym, ap, subst, arith}
 use Rattle.std.specs.Result.{is_err}
 use Rattle.std.proofs.lemmas.Bool.{eqb-true}
 use Rattle.tbl_kinds.specs.Notes.{untouched}
@@ -20,10 +20,12 @@ use Rattle.store_requests.specs.Called.{Leaving}
 use Rattle.request_effects.specs.Reports.{Reported, nothing_reported}
 use Rattle.request_effects.specs.Effects.{Effect, told_at}
 use Rattle.reply_packets.specs.Telling.{Tells}
-use Rattle.tbl_core.specs.Answers.{Moment, effect_in, Answers, Answered}
+use Rattle.tbl_core.specs.Answers.{Moment, moment_at, effect_in, Answers, Answered, AnsweredAlone}
 use Rattle.tbl_core.specs.Numbers.{AreCounts}
+use Rattle.tbl_kinds.specs.declared.entry.Entry.{Entry}
+use Rattle.tbl_model.specs.Counts.{Counts}
 use Rattle.tbl_core.specs.Service.{PartsView, step_of, AreReady, Does, Makes, Meets, IsMade}
-use Rattle.tbl_core.proofs.BootedAfter.{is_made}
+use Rattle.tbl_core.proofs.BootedAfter.{is_made, no_boot}
 use Rattle.tbl_core.proofs.Nothing.{IsSilent, nothing_told}
 use Rattle.tbl_core.proofs.TableRequests.{table_makes, table_meets}
 use Rattle.tbl_outside.specs.declared.bank.Bank.{Ghosts}
@@ -43,10 +45,7 @@ module _ {B C : Type 0} (g : Ghosts B) (v : ValidatorGhosts C) (old new : PartsV
   -- no boot comes after it
   pub made_plainly : IsMade g v (step_of old new request) means done
   made_plainly = is_made g v old new new request means done done.note makes meets
-      (record { ended = done.note.ended; stopped = done.note.stopped; found = done.note.found; is = refl; same = λ _. refl })
-      (rw none refl) (λ told s holds. rw none holds) (λ told s holds stop. absurd (cc (stop, none))) (λ told s holds stop. absurd (cc (stop, none))) (λ told stop. absurd (cc (stop, none))) (λ stop. absurd (cc (stop, none)))
-      (rw none (record { fault_count = omega arith; stop_count = omega arith; fault = inl (omega arith); stop = inl (omega arith); no_fault = λ _. refl; no_stop = λ _. refl }))
-      (λ stop. absurd (cc (stop, none)))
+      (no_boot g new done.note (λ stop. cc (stop, none))) (λ stop. absurd (cc (stop, none)))
 
 -- a request about tables was done that no packet reports
 module _ {B C : Type 0} (g : Ghosts B) (v : ValidatorGhosts C) (old new : Moment B C)
@@ -54,7 +53,7 @@ module _ {B C : Type 0} (g : Ghosts B) (v : ValidatorGhosts C) (old new : Moment
     (does : Does v 0 old.parts new.parts (λ s given. effect_of s new.entry.actor new.entry.request given) (effect_in new.entry nothing_reported))
     (ready : AreReady v old.parts)
     (moved : g.tells → (blocks : Blocks) → HasBlocks g.tells g.now old.parts.store blocks → Leaving g old.parts.store new.parts.store (DuringCalls [] blocks))
-    (no_packets : new.entry.reply.packets.list ≡ []) (same_counts : new.counts ≡ old.counts) (are : AreCounts old.counts) where
+    (no_packets : new.entry.reply.packets.list ≡ []) (unreported : new.report ≡ nothing_reported) (same_counts : new.counts ≡ old.counts) (are : AreCounts old.counts) where
   makes : Makes g v new.entry.request old.parts new.parts (effect_in new.entry nothing_reported)
   makes = table_makes g v 0 old.parts new.parts new.entry.actor new.entry.request (effect_in new.entry nothing_reported) does (omega arith) ready silent.no_reset
 
@@ -65,16 +64,24 @@ module _ {B C : Type 0} (g : Ghosts B) (v : ValidatorGhosts C) (old new : Moment
   told = rw (no_packets, same_counts)
       (nothing_told old.parts.seconds old.parts.sub new.parts.tables new.entry.request (effect_in new.entry nothing_reported) silent (not_stopped new.entry.reply.status new.entry.given.note does.note makes.cause) refl refl refl old.counts are)
 
-  pub quietly_answered : Answers g v old new nothing_reported
-  quietly_answered = record {
-    actor_is = same_actor;
-    request_is = same_request;
-    made = made_plainly g v old.parts new.parts new.entry.request (λ s given. effect_of s new.entry.actor new.entry.request given) (effect_in new.entry nothing_reported) makes meets (ap (λ (n : BankNote). n.outcome) does.note);
-    told = told;
-    small = record { bytes = does.within.bytes; packets = rw no_packets (omega arith) };
-  }
+  pub quietly_answered : Answers g v old new
+  quietly_answered =
+      let made = made_plainly g v old.parts new.parts new.entry.request (λ s given. effect_of s new.entry.actor new.entry.request given) (effect_in new.entry nothing_reported) makes meets (ap (λ (n : BankNote). n.outcome) does.note) in
+      record {
+        actor_is = same_actor;
+        request_is = same_request;
+        made = subst (λ (r : Reported). IsMade g v (step_of old.parts new.parts new.entry.request) (λ s given. effect_of s new.entry.actor new.entry.request given) (effect_in new.entry r)) (sym unreported) made;
+        told = subst (λ (r : Reported). Tells old.counts new.counts (told_at old.parts.seconds old.parts.sub new.parts.tables new.entry.request (effect_in new.entry r)) new.entry.reply.packets.list) (sym unreported) told;
+        small = record { bytes = does.within.bytes; packets = rw no_packets (omega arith) };
+      }
 
 -- what holds if a request was answered
-pub when_answered : {B C E : Type 0} (g : Ghosts B) (v : ValidatorGhosts C) (old new : Moment B C) (report : Reported) (r : Result Unit E) → false ≡ is_err r → Answered g v old new report r → Answers g v old new report
-when_answered g v old new report (Ok x) is answers = answers
-when_answered g v old new report (Err e) is kept = absurd (cc is)
+pub when_answered : {B C E : Type 0} (g : Ghosts B) (v : ValidatorGhosts C) (old new : Moment B C) (r : Result Unit E) → false ≡ is_err r → Answered g v old new r → Answers g v old new
+when_answered g v old new (Ok x) is answers = answers
+when_answered g v old new (Err e) is kept = absurd (cc is)
+
+-- a request was answered that isn't counted
+pub answered_alone : {B C E : Type 0} (g : Ghosts B) (v : ValidatorGhosts C) (old new : PartsView B C) (counts : Counts) (report : Reported) (begun entry : Entry) (r : Result Unit E) → AreCounts counts → report ≡ nothing_reported → AnsweredAlone g v old new begun entry r
+    → Answered g v (moment_at old counts report begun) (moment_at new counts report entry) r
+answered_alone g v old new counts report begun entry (Ok x) are none answers = subst (λ (r : Reported). Answers g v (moment_at old counts r begun) (moment_at new counts r entry)) (sym none) (answers counts are)
+answered_alone g v old new counts report begun entry (Err e) are none kept = (kept, refl)

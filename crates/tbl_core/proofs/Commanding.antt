@@ -1,23 +1,16 @@
 -- A packet that was read as no command.
-use Rattle.std.proofs.Common.{◌≡◌, ◌∙◌, List, [], ◌∷◌, Option, Some, None, Result, Err, refl, sym, ap, subst}
+use Rattle.std.proofs.Common.{◌≡◌, [], ◌∷◌, Some, None, Result, Err, refl, ap}
 use Rattle.tbl_kinds.specs.Buffers.{Buffer}
 use Rattle.tbl_kinds.specs.Notes.{untouched}
 use Rattle.tbl_kinds.specs.GroundCommands.{GroundCommand, command_in}
 use Rattle.tbl_kinds.specs.declared.entry.Answer.{Answer}
-use Rattle.tbl_kinds.specs.declared.note.BankNote.{BankNote}
 use Rattle.tbl_kinds.specs.declared.request.Actor.TheVariants.{Ground}
 use Rattle.tbl_kinds.specs.declared.request.Request.TheVariants as ask
-use Rattle.tbl_model.specs.State.{State}
-use Rattle.tbl_model.specs.Given.{Given, nothing_given}
 use Rattle.tbl_model.specs.Commands.{effect_by}
 use Rattle.tbl_model.specs.Dispatch.{effect_of}
-use Rattle.tbl_outside.specs.declared.validator.KitEntry.{KitEntry}
-use Rattle.validation.specs.Kits.{owners}
-use Rattle.request_effects.specs.Effects.{Effect, IsEffect, IsWithin, given_of, quiet_effect}
-use Rattle.tbl_core.specs.Service.{PartsView, IsStateOf, Leaves, IsJudged, Does}
-use Rattle.tbl_core.specs.Verdicts.{Judged}
-use Rattle.tbl_core.proofs.Doing.{plainly, answered as does_answer}
-use Rattle.tbl_core.proofs.Owners.{leaves_of}
+use Rattle.request_effects.specs.Effects.{quiet_effect}
+use Rattle.tbl_core.specs.Service.{PartsView, Does}
+use Rattle.tbl_core.proofs.Doing.{answered as does_answer}
 use Rattle.tbl_core.proofs.Verdicts.{none_judged}
 use Rattle.tbl_outside.specs.declared.validator.Validator.{Ghosts as ValidatorGhosts}
 

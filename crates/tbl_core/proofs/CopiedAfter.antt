@@ -25,7 +25,6 @@ use Rattle.tbl_model.specs.Effects as model
 use Rattle.tbl_model.specs.Given.{Given}
 use Rattle.tbl_model.specs.BankCounts.{stopped_once, HasCause}
 use Rattle.tbl_model.specs.Copies.{went_active, block_of, copied_to, copied_of, then_copy}
-use Rattle.tbl_model.specs.Boots.{stopped}
 use Rattle.tbl_model.specs.Refusals.{by_answer, by_refusal, closed_refusal, image_refusal, file_refusal}
 use Rattle.tbl_model.specs.Subjects.{if_file}
 use Rattle.tbl_model.specs.AppLoads.{activate_effect, by_function, from_file, file_image, load_file_of}
@@ -39,6 +38,7 @@ use Rattle.tbl_core.specs.Requests.{activates}
 use Rattle.store_requests.specs.Called.{with_boot}
 use Rattle.request_effects.specs.Effects.{IsEffect, given_of}
 use Rattle.tbl_core.specs.Owned.{owned_effect, owned_at}
+use Rattle.tbl_core.specs.Answers.{WasMade}
 use Rattle.tbl_core.specs.Service.{PartsView, IsStateOf, state_of, step_of, DoesAndCopies, Has, HasEffect, Makes, Meets, AreReady}
 use Rattle.tbl_core.specs.Verdicts.{Judged}
 use Rattle.cds_store.specs.StoreBlocks.{StandsFor as HasBlocks}
@@ -186,3 +186,6 @@ module _ {B C : Type 0} (g : Ghosts B) (v : ValidatorGhosts C) (old new : PartsV
       (has_called g v old new request done plain does.copied.call.no_boot s e.next e.questions (then_copy row n e) follows.ended follows.stopped follows.found (λ goes. sym follows.is ∙ follows.same goes) c
       found.3.store stands
       (subst (λ (verdicts : List (Option ℤ)). Judged v old.kit new.kit e.questions verdicts) (sym does.copied.call.verdicts) (judged_there v old.kit new.kit does.before.verdicts _ e found.1 (does.does.judged s holds.parts)))))
+
+  pub copies_made : WasMade g v (step_of old new request) actor done
+  copies_made = record { makes = copies_makes; meets = copies_meets (activates_no_reset request can) }

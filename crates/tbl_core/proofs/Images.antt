@@ -1,13 +1,10 @@
 -- The bound on the images of a table, computed again.
 use Rattle.std.proofs.Common.{◌≤◌, ℕ, suc, zero, List, [], ◌∷◌, Option, Some, None, arith}
 use Rattle.std.specs.Prelude.{max, fold, slice_index_or}
-use Rattle.std.specs.Option.{ForSome}
 use Rattle.std.proofs.Math.Nat.{le-max_left, le-max_right, max-le}
-use Rattle.tbl_kinds.specs.declared.request.Request.{Request}
-use Rattle.tbl_model.specs.State.{State, Table, Tables, Handle}
+use Rattle.tbl_model.specs.State.{Table}
 use Rattle.tbl_model.specs.Tables.{table_at}
-use Rattle.tbl_model.specs.Pending.{is_pending}
-use Rattle.tbl_model.specs.Fit.{IsFit, FitAt, AreFit}
+use Rattle.tbl_model.specs.Fit.{FitAt}
 use Rattle.tbl_registry.specs.Images.{images_in, most_images}
 use Rattle.tbl_core.specs.Service.{EngineView, IsReady, recounted, state_of}
 use Rattle.tbl_outside.specs.declared.validator.Validator.{Ghosts as ValidatorGhosts}

@@ -1,15 +1,11 @@
 -- An engine over another bank that holds the same bytes, with other functions of the same applications.
-use Rattle.std.proofs.Common.{◌≡◌, ◌∙◌, ◌*◌, ◌^◌, List, Option, sym, subst, arith}
-use Rattle.tbl_kinds.specs.StoreSteps.{Shows as ShowsBlocks}
+use Rattle.std.proofs.Common.{◌≡◌, ◌∙◌, ◌^◌, List, Option, sym, arith}
 use Rattle.tbl_kinds.specs.declared.entry.Entry.{Entry}
 use Rattle.tbl_model.specs.State.{State}
-use Rattle.tbl_model.specs.History.{begins_at, run_from}
 use Rattle.tbl_outside.specs.declared.bank.Bank.{Ghosts}
 use Rattle.tbl_outside.specs.declared.validator.KitEntry.{KitEntry}
 use Rattle.tbl_outside.specs.declared.validator.Validator.{Ghosts as ValidatorGhosts}
 use Rattle.validation.specs.Kits.{owners}
-use Rattle.cds_layout.specs.Images.{store_of}
-use Rattle.cds_store.specs.StoreBlocks.{AreHeld}
 use Rattle.tbl_core.specs.Copying.{moved}
 use Rattle.tbl_core.specs.Service.{EngineView, Stands, IsAfter, IsReady, AskedBelow}
 

@@ -1,10 +1,9 @@
 -- What a request asks doesn't depend on what is given to it, and functions that are handed in leave what the engine represents.
-use Rattle.std.proofs.Common.{◌≡◌, ◌≢◌, ◌∙◌, ℕ, ◌+◌, ◌*◌, ◌^◌, ◌<◌, List, [], ◌∷◌, Bool, true, false, Option, Some, None, IsSome, option_map, refl, sym, ap, subst, inl, inr, arith}
+use Rattle.std.proofs.Common.{◌≡◌, ◌∙◌, ℕ, ◌+◌, ◌*◌, ◌^◌, ◌<◌, List, [], ◌∷◌, true, false, Option, Some, None, IsSome, option_map, refl, sym, ap, subst, inl, inr, arith}
 use Rattle.std.specs.Option.{ForSome}
 use Rattle.std.proofs.lemmas.Bool.{cases_eq, cond_both}
 use Rattle.std.proofs.lemmas.Option.{same_Some}
 use Rattle.tbl_kinds.specs.StoreCalls.{copy}
-use Rattle.tbl_kinds.specs.declared.entry.Entry.{Entry}
 use Rattle.tbl_kinds.specs.declared.note.BankNote.{BankNote}
 use Rattle.tbl_kinds.specs.declared.note.Outcome.{Outcome}
 use Rattle.tbl_kinds.specs.declared.note.Outcome.TheVariants.{Untouched, Done, Failed, Stopped}
@@ -29,7 +28,7 @@ use Rattle.tbl_outside.specs.declared.validator.KitEntry.{KitEntry}
 use Rattle.tbl_outside.specs.declared.validator.Validator.{Ghosts as ValidatorGhosts}
 use Rattle.validation.specs.Kits.{entry_at, owners, with_check, Hands}
 use Rattle.request_effects.specs.Requests.{owners_handle}
-use Rattle.tbl_core.specs.Asking.{may_ask, asked_in, AsksIn, Asks, StandsOn, HandsIn}
+use Rattle.tbl_core.specs.Asking.{may_ask, asked_in, AsksIn, Asks, StandsOn}
 use Rattle.tbl_core.specs.Owned.{owned_effect, owned_at, copied_at}
 use Rattle.tbl_core.specs.Service.{PartsView, EngineView, IsStateOf, IsReady, AskedBelow, LeadsTo, owned_in, recounted}
 use Rattle.tbl_core.proofs.Owners.{refused}

@@ -1,9 +1,9 @@
 -- A service at its start.
-use Rattle.std.proofs.Common.{◌≡◌, ⊎_elim, inr, ℕ, List, [], replicate, false, Option, None, Result, Err, refl, sym, ap, subst}
+use Rattle.std.proofs.Common.{◌≡◌, ⊎_elim, inr, ℕ, List, [], Option, Result, Err, refl, sym, ap, subst, arith}
 use Rattle.tbl_kinds.specs.Admitted.{Admitted}
 use Rattle.tbl_kinds.specs.Blocks.{Store as Blocks}
-use Rattle.tbl_model.specs.State.{first_state, no_tables}
-use Rattle.tbl_model.specs.Counts.{counts_of, no_counts}
+use Rattle.tbl_model.specs.State.{first_state}
+use Rattle.tbl_model.specs.Counts.{counts_of}
 use Rattle.validation.specs.Kits.{owners}
 use Rattle.cds_store.specs.Calls.{CallCounted}
 use Rattle.cds_layout.specs.Images.{store_of}
@@ -17,26 +17,16 @@ use Rattle.tbl_kinds.specs.declared.request.ResetKind.TheVariants.{Processor}
 use Rattle.cds_store.specs.declared.fault.BankFault.{BankFault}
 use Rattle.cds_store.specs.declared.fault.BankFault.TheVariants.{Fault, Stopped}
 use Rattle.tbl_outside.specs.declared.validator.KitEntry.{KitEntry}
-use Rattle.tbl_core.specs.Service.{EngineView, Stands, start_fault, StartCounted}
+use Rattle.tbl_core.specs.Entering.{IsKept}
+use Rattle.tbl_core.specs.Starting.{IsNew, EngineBegins, CoreBegins}
+use Rattle.tbl_core.specs.Service.{EngineView, core_of, Stands, IsAfter, start_fault, StartCounted}
 use Rattle.tbl_outside.specs.declared.bank.Bank.{Ghosts}
 
--- nothing is registered, runs, is kept or pending, and nothing was reported
-pub record IsNew {B C : Type 0} (kit : List (Option (KitEntry C))) (admit : Admitted) (engine : EngineView B C) : Type 0 where
-  pub counts : engine.counts ≡ no_counts
-  pub tables : engine.state.tables ≡ no_tables
-  pub pending : engine.state.pending ≡ []
-  pub drawer : engine.state.drawer ≡ []
-  pub apps : engine.state.apps ≡ replicate 16 None
-  pub functions : engine.state.kit ≡ kit
-  pub lists : engine.state.admit ≡ admit
-  pub seconds : engine.state.seconds ≡ 0
-  pub sub : engine.state.sub ≡ 0
-  pub live : engine.state.ended ≡ false
-
--- then it represents the first state, over the blocks that its store represents
-pub stands_first : {B C : Type 0} (g : Ghosts B) (kit : List (Option (KitEntry C))) (admit : Admitted) (blocks : Blocks) (engine : EngineView B C) → IsNew kit admit engine → (g.tells → HasBlocks g.tells g.now engine.state.store blocks) → Stands g (first_state blocks (owners kit) admit) [] engine
+-- what is new represents the first state, over the blocks that its store represents then
+pub stands_first : {B C : Type 0} (g : Ghosts B) (bank : B) (kit : List (Option (KitEntry C))) (admit : Admitted) (blocks : Blocks) (engine : EngineView B C) (kept : StoreParts B) → IsNew bank kit admit engine → (g.tells → HasBlocks g.tells g.now kept blocks)
+    → Stands g (first_state blocks (owners kit) admit) [] (record engine { state = record engine.state { store = kept } })
 unfolding counts_of
-stands_first g kit admit blocks engine new has = record {
+stands_first g bank kit admit blocks engine kept new has = record {
   legal = λ told. record { answered = tt; leads = refl };
   shows = λ told. record {
     state = record {
@@ -56,6 +46,22 @@ stands_first g kit admit blocks engine new has = record {
     };
     counts = sym new.counts;
   };
+}
+
+-- a core begins with its engine
+pub none_kept : {B C : Type 0} (engine : EngineView B C) → IsAfter [] engine → IsKept [] engine
+none_kept engine after = record { after = after; small = λ k d within. absurd (omega (arith, within)) }
+
+pub core_begins : {B C : Type 0} (g : Ghosts B) (bank : B) (kit : List (Option (KitEntry C))) (admit : Admitted) (engine : EngineView B C) → EngineBegins g bank kit admit engine → CoreBegins g bank kit admit (core_of [] engine)
+core_begins g bank kit admit engine is = record {
+  stands = is.stands;
+  empty = refl;
+  kit = is.kit;
+  admit = is.admit;
+  live = is.live;
+  counts = is.counts;
+  crash = is.crash;
+  asked = is.asked;
 }
 
 -- the counts of the bank moved as the fault of the boot says

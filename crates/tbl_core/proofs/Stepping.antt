@@ -1,43 +1,39 @@
 -- One step of the engine, over every past that it may have played.
-use Rattle.std.proofs.Common.{◌≡◌, ◌≤◌, ℕ, List, [], ◌∷◌, ◌++◌, length, Option, Result, Ok, Err, refl, sym, subst, arith}
-use Rattle.std.specs.Prelude.{All}
+use Rattle.std.proofs.Common.{◌≡◌, ◌∙◌, ◌≤◌, ℕ, List, [], ◌∷◌, ◌++◌, Bool, true, false, Result, Ok, Err, refl, sym, subst, arith}
+use Rattle.std.specs.Prelude.{All, OnOk, if◌then◌else◌}
 use Rattle.std.proofs.lemmas.List.Elements.{All-push}
-use Rattle.tbl_kinds.specs.declared.block.Block.{Block}
-use Rattle.tbl_kinds.specs.declared.request.Request.TheVariants as ask
-use Rattle.tbl_kinds.specs.declared.request.ResetKind.TheVariants.{PowerOn}
-use Rattle.tbl_model.specs.State.{State, no_tables}
-use Rattle.tbl_model.specs.History.{begins_at, run_from}
-use Rattle.tbl_model.specs.Vouched.{IsVouched}
-use Rattle.tbl_model.specs.Whole.{IsWhole}
-use Rattle.cds_layout.specs.Images.{store_of}
-use Rattle.tbl_outside.specs.Bank.{LeavesOnly}
-use Rattle.tbl_outside.specs.declared.validator.KitEntry.{KitEntry}
-use Rattle.tbl_session.specs.Backed.{AreSingle, AreBacked}
-use Rattle.tbl_session.specs.Crashes.{AfterCrash, calls_in, all_calls_in}
-use Rattle.tbl_session.specs.Completed.{HasCompleted, LeaveAlone}
-use Rattle.tbl_session.specs.Restores.{RestoresHeld}
-use Rattle.tbl_session.specs.Verdicts.{questions_in, KeepsToFunctions}
 use Rattle.tbl_kinds.specs.declared.entry.Entry.{Entry}
 use Rattle.tbl_kinds.specs.declared.request.Actor.{Actor}
 use Rattle.tbl_kinds.specs.declared.request.Request.{Request}
 use Rattle.tbl_laws.proofs.VouchedLaws.{vouched}
 use Rattle.tbl_laws.proofs.WholeLaws.{whole}
 use Rattle.tbl_laws.proofs.BackedLaws.{backed}
-use Rattle.tbl_core.specs.BankAsked.{AsksOnce}
 use Rattle.tbl_core.specs.Ended.{OnPlayed}
 use Rattle.tbl_core.specs.Log.{IsSmall}
 use Rattle.tbl_core.specs.Engine.{Steps, Enters}
+use Rattle.tbl_core.specs.Entering.{IsKept, Advances, AdvancesLent}
+use Rattle.tbl_core.specs.Lent.{StillPins, LastGives}
+use Rattle.tbl_kinds.specs.Buffers.{Buffer}
+use Rattle.tbl_registry.specs.declared.pin.Pin.{Pin}
 use Rattle.tbl_core.specs.Stepped.{Stepped}
-use Rattle.tbl_core.specs.Service.{EngineView, core_of, FollowsFrom, Vouches, IsAfter, AddsOne, PinsOnward, Plays}
-use Rattle.tbl_core.specs.Verdicts.{Judged}
+use Rattle.tbl_core.specs.Service.{CoreView, EngineView, core_of, IsAfter, PinsOnward, Plays}
 use Rattle.tbl_core.specs.declared.service.StepFault.{StepFault}
 use Rattle.tbl_core.specs.declared.service.StepFault.TheVariants.{Memory, BootFault, BootStopped}
 use Rattle.tbl_core.proofs.Crashing.{moments_of, crash, completed}
 use Rattle.tbl_core.proofs.Keeping.{keeps}
-use Rattle.tbl_core.proofs.Steps.{plays_on}
+use Rattle.tbl_core.proofs.Steps.{plays_on, on_played}
 use Rattle.tbl_core.proofs.Vouching.{vouches_on}
 use Rattle.tbl_outside.specs.declared.bank.Bank.{Ghosts}
 use Rattle.tbl_outside.specs.declared.validator.Validator.{Ghosts as ValidatorGhosts}
+
+-- a note by which a step goes on
+abbrev ends_so : Bool → Bool → Result Unit StepFault
+ends_so ended stopped = if ended then (if stopped then Err BootStopped else Err BootFault) else Ok tt
+
+goes_so : (x : Unit {0}) (ended stopped : Bool) → Ok x ≡ ends_so ended stopped → ended ≡ false
+goes_so x false stopped is = refl
+goes_so x true true is = absurd (cc is)
+goes_so x true false is = absurd (cc is)
 
 module _ {B C : Type 0} (g : Ghosts B) (v : ValidatorGhosts C) (tells_both : g.tells_moments → g.tells) (leaves_now : (bank : B) → g.tells_moments → g.may_leave bank (g.now bank))
     (counts_now : (bank : B) (t : ℕ) (image : List ℕ) → g.tells_moments → t ≤ g.clock bank → g.may_leave bank image → g.left_since bank t image)
@@ -64,6 +60,11 @@ module _ {B C : Type 0} (g : Ghosts B) (v : ValidatorGhosts C) (tells_both : g.t
   pub all_steps : Steps g v old new (actor, request) e result
   all_steps = record { after = p.after; stepped = with_past; pins = p.pins }
 
+-- the service goes on after a step that ends so
+pub still_live : {B C : Type 0} (g : Ghosts B) (v : ValidatorGhosts C) (old new : EngineView B C) (actor : Actor) (request : Request) (e : Entry) (result : Result Unit StepFault) → OnPlayed result (Plays g v old new (actor, request) e result) → OnOk result (new.state.ended ≡ false)
+still_live g v old new actor request e (Ok x) p = p.ended ∙ goes_so x e.given.note.ended e.given.note.stopped p.ends
+still_live g v old new actor request e (Err fault) p = tt
+
 -- ---- a core, which keeps the past as its log
 
 -- the log is still what the engine played, also if memory ran out
@@ -89,3 +90,28 @@ module _ {B C : Type 0} (g : Ghosts B) (v : ValidatorGhosts C) (log entries : Li
 
   pub pins : IsAfter log old → PinsOnward (core_of log old) (core_of entries new)
   pins was = subst (λ (es : List Entry). PinsOnward (core_of log old) (core_of es new)) (sym d.1) (d.2.pins log was)
+
+-- what a step promises of a core whose log has one entry more, or none if memory ran out
+module _ {B C : Type 0} (g : Ghosts B) (v : ValidatorGhosts C) (log entries : List Entry) (old new : EngineView B C) (actor : Actor) (request : Request) (result : Result Unit StepFault)
+    (d : OnPlayed result (Enters (λ x. Steps g v old new (actor, request) x result) log entries)) (same_log : result ≡ Err Memory → entries ≡ log) (same : result ≡ Err Memory → new ≡ old) (was : IsKept log old) where
+  advances : OnOk result (new.state.ended ≡ false) → Advances g v (core_of log old) (core_of entries new) (actor, request) result
+  advances live = record {
+    stepped = on_played result (stepped g v log entries old new actor request result) d;
+    pins = on_played result (λ x. pins g v log entries old new actor request result x was.after) d;
+    live = live;
+    err = λ none. λ i. core_of (same_log none i) (same none i);
+  }
+
+  still_kept : IsKept entries new
+  still_kept = record {
+    after = still_after g v log entries old new actor request result d same_log same was.after;
+    small = still_small g v log entries old new actor request result d same_log was.small;
+  }
+
+  pub entered : OnOk result (new.state.ended ≡ false) → Advances g v (core_of log old) (core_of entries new) (actor, request) result × IsKept entries new
+  entered live = (advances live, still_kept)
+
+-- with these bytes for a Read
+pub advances_lent : {B C : Type 0} (g : Ghosts B) (v : ValidatorGhosts C) (old new : CoreView B C) (asked : Actor × Request) (taken : Pin × Buffer) (result : Result Unit StepFault) → Advances g v old new asked result
+    → (StillPins taken.0 old.gets → OnPlayed result (LastGives old.state old.entries new.entries taken.1)) → AdvancesLent g v old new asked taken result
+advances_lent g v old new asked taken result steps lent = record { lent = lent; stepped = steps.stepped; pins = steps.pins; live = steps.live; err = steps.err }

@@ -70,11 +70,12 @@ kept_of past engine = record { entries = past; tables = engine.state.tables; get
 pub record Did {B C : Type 0} (g : Ghosts B) (v : ValidatorGhosts C) (old new : EngineView B C) : Type 0 where
   pub began : Entry
   pub entry : Entry
+  pub was : Reported
   pub report : Reported
   pub fits : Fits entry.actor entry.request
   pub live : old.state.ended ≡ false
   pub ready : IsReady v old
-  pub answers : Answers g v (moment_at old.state old.counts began) (moment_at new.state new.counts entry) report
+  pub answers : Answers g v (moment_at old.state old.counts was began) (moment_at new.state new.counts report entry)
   pub gets : new.gets ≡ gets_after old.gets old.played entry
   pub played : new.played ≡ suc old.played
   pub images : new.images ≡ suc old.images

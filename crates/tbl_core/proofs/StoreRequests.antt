@@ -41,10 +41,11 @@ use Rattle.cds_store.specs.StoreBlocks.{StoreParts, StandsFor}
 use Rattle.tbl_core.specs.BankAsked.{BootAsks}
 use Rattle.store_requests.specs.Called.{NoBoot, with_boot, IsCall, IsCalled, Calls}
 use Rattle.store_requests.specs.Requests.{Site, Made, Served}
-use Rattle.store_requests.proofs.Promised.{of_served}
 use Rattle.std.specs.Prelude.{IfOk, OnOk, OnErr}
 use Rattle.tbl_session.specs.Restores.{RestoresHeld}
-use Rattle.tbl_core.specs.Service.{PartsView, IsStateOf, state_of, step_of, HasEffect, Makes, Meets}
+use Rattle.tbl_core.specs.Answers.{Tries}
+use Rattle.tbl_kinds.specs.declared.request.Actor.{Actor}
+use Rattle.tbl_core.specs.Service.{PartsView, IsStateOf, state_of, step_of, HasEffect, Has, Makes, Meets}
 use Rattle.tbl_core.specs.Verdicts.{Judged}
 use Rattle.request_effects.specs.Effects.{Effect}
 use Rattle.tbl_core.proofs.Verdicts.{none_judged}
@@ -187,17 +188,23 @@ module _ {B C : Type 0} (g : Ghosts B) (v : ValidatorGhosts C) (old : PartsView 
   block_makes none done call = call_makes g v old (record old { store = store }) request done refl live call (λ n fit. grown n (state_of old) fit) (stays_keeps old.tables) none
 
   module _ {E : Type 0} (means : State → BankNote → model.Effect) (Asks : Ghosts B → StoreParts B → StoreParts B → Outcome → Type 0) (r : Result Effect E) (served : Served g (site_of old) (site_of (record old { store = store })) means Asks r) where
-    pub blocks_make : ((n : ℕ) → asks_address n request ≡ false) → IfOk r (Makes g v request old (record old { store = store }))
-    blocks_make none = of_served g (site_of old) (site_of (record old { store = store })) means Asks r _ (λ done it. block_makes none done it.made.call) served
+    -- what the actor requests has this effect
+    module _ (actor : Actor) (none : (n : ℕ) → asks_address n request ≡ false) (plain : is_reset request ≡ false) (is : (s : State) (given : Given) → effect_of s actor request given ≡ Some (means s given.note)) where
+      abbrev left : PartsView B C
+      left = record old { store = store }
 
-    pub blocks_meet : is_reset request ≡ false → IfOk r (Meets g v (step_of old (record old { store = store }) request) (λ s given. Some (means s given.note)))
-    blocks_meet plain = of_served g (site_of old) (site_of (record old { store = store })) means Asks r _ (λ done it. call_meets g v old (record old { store = store }) request done refl live it.made.call means it.made plain) served
-
-    pub blocks_kept : OnErr r (record old { store = store } ≡ old)
-    blocks_kept = by r served where
-      by : (r : Result Effect E) → Served g (site_of old) (site_of (record old { store = store })) means Asks r → OnErr r (record old { store = store } ≡ old)
-      by (Ok done) it = tt
-      by (Err e) kept = ap (λ (parts : StoreParts B). record old { store = parts }) kept
+      pub blocks_tried : Tries g v (step_of old left request) actor r
+      blocks_tried = by r served where
+        by : (r : Result Effect E) → Served g (site_of old) (site_of left) means Asks r → Tries g v (step_of old left request) actor r
+        by (Ok done) it = record {
+          made = record {
+            makes = block_makes none done it.made.call;
+            meets = λ told s holds note follows. subst (Has g v (step_of old left request) s done note) (sym (is s (record { note = note; verdicts = done.verdicts })))
+                (call_meets g v old left request done refl live it.made.call means it.made plain told s holds note follows);
+          };
+          err = tt;
+        }
+        by (Err e) same = record { made = tt; err = ap (λ (parts : StoreParts B). record old { store = parts }) same }
 
 -- ---- a registration
 

@@ -33,6 +33,7 @@ use Rattle.tbl_core.specs.BankAsked.{BootAsks}
 use Rattle.tbl_core.proofs.StoreRequests.{no_boot_at}
 use Rattle.tbl_session.specs.Restores.{RestoresHeld}
 use Rattle.request_effects.specs.Effects.{IsEffect, given_of}
+use Rattle.tbl_core.specs.Answers.{WasMade}
 use Rattle.tbl_core.specs.Service.{PartsView, IsStateOf, state_of, step_of, Leaves, IsJudged, Does, HasEffect, Has, Makes, Meets, AreReady}
 use Rattle.tbl_core.specs.Verdicts.{Judged}
 use Rattle.request_effects.specs.Effects.{Effect}
@@ -150,3 +151,6 @@ module _ {B C : Type 0} (g : Ghosts B) (v : ValidatorGhosts C) (most : ℕ) (old
       } in
       subst (λ (n : BankNote). Has g v (step_of old new request) s done n (effect_of s actor request (record { note = n; verdicts = done.verdicts }))) (sym same)
       (subst (Has g v (step_of old new request) s done done.note) (sym found.1) had)
+
+  pub table_made : is_reset request ≡ false → (g.tells → (blocks : Blocks) → HasBlocks g.tells g.now old.store blocks → Leaving g old.store new.store (DuringCalls [] blocks)) → WasMade g v (step_of old new request) actor done
+  table_made plain moved = record { makes = table_makes plain; meets = table_meets moved plain }

@@ -1,5 +1,5 @@
 -- What a request would ask of validation functions, before it is played, and functions that are handed in for it.
-use Rattle.std.specs.Prelude.{◌≡◌, ℕ, List, [], Bool, true, false, Option}
+use Rattle.std.specs.Prelude.{◌≡◌, ℕ, List, [], Bool, true, false, Option, Result, IfOk}
 use Rattle.std.specs.Option.{option_map_or}
 use Rattle.tbl_model.specs.State.{State}
 use Rattle.tbl_model.specs.Effects as model
@@ -14,7 +14,10 @@ use Rattle.tbl_kinds.specs.declared.request.Request.{Request}
 use Rattle.tbl_kinds.specs.declared.request.Request.TheVariants as ask
 use Rattle.tbl_outside.specs.declared.bank.Bank.{Ghosts}
 use Rattle.validation.specs.Kits.{Hands}
-use Rattle.tbl_core.specs.Service.{PartsView, EngineView, IsStateOf, Stands, IsAfter, IsLimit}
+use Rattle.desk.specs.Questions.{all_asked}
+use Rattle.desk.specs.declared.questions.Questions.{Questions}
+use Rattle.tbl_core.specs.Service.{PartsView, EngineView, parts_view, IsStateOf, Stands, IsAfter, IsLimit}
+use Rattle.tbl_core.specs.declared.parts.Parts.{Parts}
 
 -- requests with which the owner of a table has its function asked
 abbrev pub may_ask : Request → Bool
@@ -31,6 +34,11 @@ asked_in effect = option_map_or (λ (e : model.Effect). e.questions) effect []
 pub record AsksIn {B C : Type 0} (held : PartsView B C) (actor : Actor) (request : Request) (questions : List Question) : Type 0 where
   pub owners : may_ask request ≡ true → (s : State) → IsStateOf s.store held s → (given : Given) → asked_in (effect_of s actor request given) ≡ questions
   pub others : may_ask request ≡ false → questions ≡ []
+
+-- this was found out of the parts, and nothing was changed
+pub record OnlyAsks {B C E : Type 0} (old new : Parts B C) (actor : Actor) (request : Request) (result : Result Questions E) : Type 0 where
+  pub asks : IfOk result (λ it. AsksIn (parts_view old) actor request (all_asked it))
+  pub same : new ≡ old
 
 -- whatever opening the engine represents, and whatever it has played since: an entry of this request asks this
 pub record Asks {B C : Type 0} (g : Ghosts B) (engine : EngineView B C) (actor : Actor) (request : Request) (questions : List Question) : Type 0 where

@@ -9,6 +9,15 @@ pub mod Numbers
 pub mod Owned
 pub mod Pins
 pub mod Service
+pub mod Views
+pub mod Standing
+pub mod Ready
+pub mod Making
+pub mod Made
+pub mod Playing
+pub mod Starting
+pub mod Entering
+pub mod Booting
 pub mod Stepped
 pub mod Engine
 pub mod BankAsked

@@ -1,13 +1,8 @@
 -- What the history shows.
-use Rattle.std.specs.Prelude.{ℕ, ◌≤◌, List, length}
+use Rattle.std.specs.Prelude.{◌≤◌, length}
 use Rattle.request_effects.specs.Effects.{reply_limit}
 use Rattle.tbl_kinds.specs.declared.entry.Entry.{Entry}
 use Rattle.tbl_kinds.specs.declared.entry.Reply.{Reply}
-
--- the entries, and room for so many more
-pub record Logged : Type 0 where
-  pub entries : List Entry
-  pub spare : ℕ
 
 -- what an entry answers, and its packets
 pub record IsSmallReply (reply : Reply) : Type 0 where

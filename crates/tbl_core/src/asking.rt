@@ -6,7 +6,7 @@ ghost use Rattle.tbl_kinds.specs.declared.request.Actor.TheVariants as by;
 ghost use Rattle.tbl_model.specs.Tables.{table_at};
 ghost use Rattle.request_effects.specs.Requests.{owners_handle};
 ghost use Rattle.desk.specs.Questions.{all_asked};
-ghost use Rattle.tbl_core.specs.Asking.{AsksIn, Asks, HandsIn, MeetsLimit, StandsOn, may_ask};
+ghost use Rattle.tbl_core.specs.Asking.{AsksIn, Asks, OnlyAsks, HandsIn, MeetsLimit, StandsOn, may_ask};
 ghost use Rattle.tbl_core.specs.Service.{AreReady, HasRoom, LeadsTo, parts_view};
 
 use crate::engine::Engine;
@@ -41,8 +41,7 @@ impl<B: Bank, C: Validator> Parts<B, C> {
         requires may { may_ask request.now ≡ true }
         requires owners { owners_handle request.now ≡ Some handle }
         requires ready { AreReady C.Validator (parts_view self.old) }
-        ensures asks { IfOk result (λ it. AsksIn (parts_view self.old) (by.App app) request.now (all_asked it)) }
-        ensures same { self.new ≡ self.old }
+        ensures { OnlyAsks self.old self.new (by.App app) request.now result }
     {
         match check(&self.desk.tables, &self.desk.apps, app, handle, true) {
             Ok(row) => self.row_asks(row, request),
@@ -53,8 +52,7 @@ impl<B: Bank, C: Validator> Parts<B, C> {
     /// What this request would ask of validation functions.
     fn asks(&mut self, actor: Actor, request: &Request) -> Result<Questions, Memory>
         requires ready { AreReady C.Validator (parts_view self.old) }
-        ensures asks { IfOk result (λ it. AsksIn (parts_view self.old) actor request.now (all_asked it)) }
-        ensures same { self.new ≡ self.old }
+        ensures { OnlyAsks self.old self.new actor request.now result }
     {
         let Actor::App(app) = actor else {
             return Ok(Questions::none());

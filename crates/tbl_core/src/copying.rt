@@ -4,10 +4,11 @@ ghost use Rattle.std.specs.Prelude.{◌≡◌, ◌≤◌, ◌^◌, IfOk};
 ghost use Rattle.tbl_kinds.specs.Places.{bank_size};
 ghost use Rattle.validation.specs.Kits.{owners};
 ghost use Rattle.tbl_core.specs.Copying.{IsCopy, moved};
-ghost use Rattle.tbl_core.specs.Service.{AskedBelow, PartsView, parts_view, works_view};
+ghost use Rattle.tbl_core.specs.Starting.{Holds};
+ghost use Rattle.tbl_core.specs.Service.{AskedBelow, works_view};
 
 use crate::engine::Engine;
-use crate::parts::{Parts, Room};
+use crate::parts::{Parts, Room, Telemetry};
 use crate::playing::Works;
 use arrayvec::ArrayVec;
 use desk::Desk;
@@ -37,58 +38,49 @@ fn copy_admit(admit: &Admit) -> Admit
     }
 }
 
-impl<B: Bank, C: Validator> Parts<B, C> {
-    /// What these parts take from memory beside the store, once more. Nothing is told yet.
+impl<B: Bank, C: Validator> Works<B, C> {
+    /// What these works take from memory beside the store, once more. Nothing is told yet.
     fn copy_room(&self, alloc: Global) -> Result<Room, Memory>
-        ensures tables { IfOk result (λ room. room.tables ≡ self.now.desk.tables) }
-        ensures drawer { IfOk result (λ room. room.drawer ≡ self.now.desk.drawer) }
+        ensures { IfOk result (Holds self.now.parts.desk.tables self.now.parts.desk.drawer self.now.gets.items) }
     {
         Ok(Room {
-            tables: self.desk.tables.duplicate(alloc)?,
-            drawer: self.desk.drawer.duplicate(alloc)?,
+            tables: self.parts.desk.tables.duplicate(alloc)?,
+            drawer: self.parts.desk.drawer.duplicate(alloc)?,
             report: Report::make(alloc)?,
+            gets: Vec::from_slice(alloc, &self.gets)?,
         })
     }
 
-    /// The same parts in memory of their own, over this bank and with these functions.
-    fn duplicate(&self, alloc: Global, bank: B, kit: Kit<C>) -> Result<Parts<B, C>, Memory>
-        requires room { bank_size ≤ B.size bank }
-        requires same { B.tells → B.now bank ≡ B.now self.now.store.bank }
-        ensures { IfOk result (λ copy. parts_view copy ≡ record (parts_view self.now) { store = record self.now.store { bank = bank }; kit = kit }) }
-    {
-        let room = self.copy_room(alloc)?;
-        let desk = Desk {
-            alloc,
-            tables: room.tables,
-            apps: self.desk.apps.duplicate(),
-            kit,
-            admit: copy_admit(&self.desk.admit),
-            pending: self.desk.pending.duplicate(),
-            drawer: room.drawer,
-            clock: self.desk.clock,
-        };
-        Ok(Parts {
-            desk,
-            store: self.store.duplicate(alloc, bank)?,
-            ended: self.ended,
-            report: room.report,
-            copies: CopyRoom::none(),
-        })
-    }
-}
-
-impl<B: Bank, C: Validator> Works<B, C> {
-    /// The same in memory of its own, over this bank and with these functions.
+    /// The same works in memory of their own, over this bank and with these functions.
     fn duplicate(&self, alloc: Global, bank: B, kit: Kit<C>) -> Result<Works<B, C>, Memory>
         requires room { bank_size ≤ B.size bank }
         requires same { B.tells → B.now bank ≡ B.now self.now.parts.store.bank }
         ensures { IfOk result (λ copy. works_view copy ≡ moved bank kit (works_view self.now)) }
     {
-        let gets = Vec::from_slice(alloc, &self.gets)?;
+        let room = self.copy_room(alloc)?;
+        let old = &self.parts.desk;
+        let desk = Desk {
+            alloc,
+            tables: room.tables,
+            apps: old.apps.duplicate(),
+            kit,
+            admit: copy_admit(&old.admit),
+            pending: old.pending.duplicate(),
+            drawer: room.drawer,
+            clock: old.clock,
+        };
         Ok(Works {
-            counters: self.counters.duplicate(),
-            parts: self.parts.duplicate(alloc, bank, kit)?,
-            gets,
+            parts: Parts {
+                desk,
+                store: self.parts.store.duplicate(alloc, bank)?,
+                ended: self.parts.ended,
+                copies: CopyRoom::none(),
+            },
+            telemetry: Telemetry {
+                counters: self.telemetry.counters.duplicate(),
+                report: room.report,
+            },
+            gets: room.gets,
             played: self.played,
             images: self.images,
         })

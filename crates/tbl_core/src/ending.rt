@@ -3,13 +3,10 @@
 ghost use Rattle.std.specs.Prelude.{◌≡◌};
 ghost use Rattle.tbl_kinds.specs.Given.{nothing_given};
 ghost use Rattle.tbl_kinds.specs.Notes.{untouched};
-ghost use Rattle.store_requests.specs.Copying.{told_in};
-ghost use Rattle.reply_packets.specs.Counters.{counts_view};
-ghost use Rattle.tbl_core.specs.Answers.{Answers, CanEnd, IsPlain, WasMade, moment_at, moment_of};
-ghost use Rattle.tbl_core.specs.Service.{PartsView, parts_view, step_of};
+ghost use Rattle.tbl_core.specs.Answers.{CanEnd, EndsCall, moment_of};
 
-use crate::parts::Parts;
-use reply_packets::{Counters, tell_call};
+use crate::parts::{Parts, Telemetry};
+use reply_packets::tell_call;
 use request_effects::{Clock, Report};
 use tbl_kinds::{Answer, Entry, Given, Note, Outcome, Reply};
 use tbl_outside::{Bank, Validator};
@@ -62,27 +59,23 @@ impl<B: Bank, C: Validator> Parts<B, C> {
         &mut self,
         clock: Clock,
         entry: &mut Entry,
-        counters: &mut Counters,
+        telemetry: &mut Telemetry,
         mut note: Note,
     )
-        requires call { IsPlain entry.old.request }
-        requires given { entry.old.given ≡ nothing_given }
-        requires ends { CanEnd (parts_view self.old) entry.old.reply self.old.report note }
-        ensures answers { (old : PartsView B C) → old.seconds ≡ clock.seconds → old.sub ≡ clock.sub
-            → WasMade B.Bank C.Validator (step_of old (parts_view self.old) entry.old.request) entry.old.actor (told_in entry.old.reply self.old.report note)
-            → Answers B.Bank C.Validator (moment_at old (counts_view counters.old) entry.old) (moment_of self.new counters.new entry.new) self.new.report }
+        requires { CanEnd (moment_of self.old telemetry.old entry.old) note }
+        ensures { EndsCall B.Bank C.Validator clock note (moment_of self.old telemetry.old entry.old) (moment_of self.new telemetry.new entry.new) }
     {
         self.boot_if_stopped(&mut note);
         let answer = answer_in(&entry.reply);
         tell_call(
             &mut entry.reply.packets,
             clock,
-            counters,
+            &mut telemetry.counters,
             &self.desk.tables,
             &entry.request,
             answer,
-            &self.report,
+            &telemetry.report,
         );
-        keep_given(&mut entry.given, note, &self.report);
+        keep_given(&mut entry.given, note, &telemetry.report);
     }
 }

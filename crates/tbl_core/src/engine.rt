@@ -1,34 +1,24 @@
 //! The engine: it plays one request after another, and keeps none of them.
 
-ghost use Rattle.std.specs.Prelude.{◌≡◌, ◌≢◌, ℕ, true, false, ◌+◌, ◌^◌, ◌<◌, ◌≤◌, ◌↔◌, Option, Some, List, [], Ok, Err, IsTrue, MatchOption, OnOk, IfOk, IfErr, IfSome, is_some};
-ghost use Rattle.tbl_model.specs.State.{first_state};
-ghost use Rattle.cds_store.specs.Moments.{ShowsIn};
-ghost use Rattle.tbl_outside.specs.Bank.{LeavesOnly};
-ghost use Rattle.tbl_kinds.specs.Requests.{Fits};
+ghost use Rattle.std.specs.Prelude.{◌≡◌, false, ◌^◌, ◌≤◌, ◌↔◌, IsTrue, MatchOption, IfOk};
 ghost use Rattle.tbl_kinds.specs.Places.{bank_size};
-ghost use Rattle.cds_layout.specs.Images.{store_of};
-ghost use Rattle.tbl_core.specs.Answers.{IsBegun};
-ghost use Rattle.tbl_core.specs.BankAsked.{BootAsks};
-ghost use Rattle.tbl_kinds.specs.declared.request.ResetKind.TheVariants.{Processor};
-ghost use Rattle.tbl_core.specs.Ended.{OnPlayed};
-ghost use Rattle.tbl_core.specs.Engine.{Steps, MayStillPin};
-ghost use Rattle.tbl_core.specs.Lent.{StillPins, GivesLent};
-ghost use Rattle.validation.specs.Kits.{owners};
-ghost use Rattle.tbl_outside.specs.Counts.{Still};
-ghost use Rattle.tbl_registry.specs.Lending.{pins_image, lent_at};
-ghost use Rattle.tbl_core.specs.Pins.{place_in, IsSliceOf};
-ghost use Rattle.tbl_core.specs.declared.service.StartFault.TheVariants.{Memory as NoMemory};
-ghost use Rattle.tbl_core.specs.Service.{Stands, IsAfter, AskedBelow, IsOfPin, core_of, HasRoom, IsLimit, recounted, StartCounted};
-ghost use Rattle.tbl_kinds.specs.declared.entry.Entry.{Entry};
+ghost use Rattle.tbl_core.specs.Engine.{MayStillPin};
+ghost use Rattle.tbl_core.specs.Entering.{IsBegunFor, MayBePlayed, HasPlayed, HasPlayedLent, LendsAny};
+ghost use Rattle.tbl_core.specs.Pins.{IsSliceOf};
+ghost use Rattle.tbl_core.specs.Starting.{StartsEngine};
+ghost use Rattle.tbl_core.specs.Service.{AskedBelow, HasRoom, IsLimit, recounted};
 
-use crate::playing::{Works, begun};
+use crate::playing::Works;
 use crate::service::{StartFault, StepFault};
 use std::alloc::Global;
 use std::marker::Model;
-use tbl_kinds::{Actor, Admit, Bytes, Entry, Memory, Request, ResetKind};
+use tbl_kinds::{Actor, Admit, Bytes, Entry, Given, Memory, Reply, Request, ResetKind, Status};
 use tbl_outside::{Back, Bank, Validator};
 use tbl_registry::Pin;
 use validation::Kit;
+
+/// The length of an event packet.
+const EVENT_LENGTH: usize = 24;
 
 /// How many requests an engine plays.
 const ENGINE_LIMIT: u64 = (1 << 61) - 1;
@@ -69,23 +59,7 @@ impl<B: Bank, C: Validator> Engine<B, C> {
     ) -> Result<Engine<B, C>, Back<StartFault, B>>
         requires room { bank_size ≤ B.size bank }
         requires asked { AskedBelow C.asked (2 ^ 62) kit }
-        // The blocks are those that the bank shows.
-        ensures stands { IfOk result (Stands B.Bank (first_state (store_of (B.now bank)) (owners kit) admit) []) }
-        ensures after { IfOk result (IsAfter []) }
-        ensures kit { IfOk result (λ engine. engine.state.kit ≡ kit) }
-        ensures admit { IfOk result (λ engine. engine.state.admit ≡ admit) }
-        ensures live { IfOk result (λ engine. engine.state.ended ≡ false) }
-        ensures counts { IfOk result (λ engine. Still B.faults B.stops bank engine.state.store.bank) }
-        // A reset at any moment in it leaves the blocks that the bank showed, also if there is no engine then.
-        ensures crash { IfOk result (λ engine. B.tells_moments → LeavesOnly B.clock B.left_since bank engine.state.store.bank (ShowsIn (store_of (B.now bank)))) }
-        ensures crash_err { IfErr result (λ back. B.tells_moments → LeavesOnly B.clock B.left_since bank back.bank (ShowsIn (store_of (B.now bank)))) }
-        ensures cause { IfErr result (λ back. StartCounted B.Bank bank back.bank back.cause) }
-        // The bank was asked what a boot asks, and no more.
-        ensures asked { IfOk result (λ engine. B.tells → BootAsks B.Bank (Some Processor) bank engine.state.store.bank true) }
-        ensures asked_err { IfErr result (λ back. back.cause ≢ NoMemory → B.tells → BootAsks B.Bank (Some Processor) bank back.bank false) }
-        // Out of memory comes before anything is asked of the bank.
-        ensures memory { IfErr result (λ back. back.cause ≡ NoMemory → back.bank ≡ bank) }
-        ensures room_err { IfErr result (λ back. bank_size ≤ B.size back.bank) }
+        ensures { StartsEngine B.Bank bank kit admit result }
     {
         let mut works = match Works::make(alloc, bank, kit, admit) {
             Ok(works) => works,
@@ -100,7 +74,7 @@ impl<B: Bank, C: Validator> Engine<B, C> {
             Ok(_found) => Ok(Engine { works }),
             Err(fault) => Err(Back {
                 cause: StartFault::from(fault),
-                bank: works.parts.end(),
+                bank: works.parts.store.end(),
             }),
         }
     }
@@ -110,14 +84,15 @@ impl<B: Bank, C: Validator> Engine<B, C> {
         ensures bank { result ≡ self.state.store.bank }
         ensures room { bank_size ≤ B.size result }
     {
-        self.works.parts.end()
+        let Engine { works } = self;
+        works.parts.store.end()
     }
 
     /// Whether the engine plays a further request: no boot of it has failed or was stopped.
     pub fn is_live(&self) -> bool
         ensures { IsTrue result ↔ (self.now.state.ended ≡ false) }
     {
-        self.works.parts.is_live()
+        !self.works.parts.ended
     }
 
     /// How many requests it has played.
@@ -150,18 +125,25 @@ impl<B: Bank, C: Validator> Engine<B, C> {
     pub fn recount(&mut self)
         ensures { self.new ≡ recounted self.old }
     {
-        self.works.recount();
+        self.works.images = self.works.parts.desk.tables.most_images();
     }
 
-    /// An entry for this request, which isn't answered yet.
+    /// An entry for this request, which isn't answered yet. It has room for one event packet in itself.
     pub fn begin(&self, actor: Actor, request: Request) -> Result<Entry, Memory>
-        ensures begun { IfOk result IsBegun }
-        ensures actor { IfOk result (λ e. e.actor ≡ actor) }
-        ensures request { IfOk result (λ e. e.request ≡ request) }
-        // No table has had more images than requests were played.
-        ensures few { IfOk result (λ e. self.now.images ≤ self.now.played) }
+        ensures { IfOk result (IsBegunFor actor request self.now) }
     {
-        begun(self.works.parts.desk.alloc, actor, request)
+        let alloc = self.works.parts.desk.alloc;
+        Ok(Entry {
+            actor,
+            request,
+            reply: Reply {
+                status: Status::SUCCESS,
+                detail: 0,
+                bytes: Bytes::make(alloc, 0)?,
+                packets: Bytes::make(alloc, EVENT_LENGTH)?,
+            },
+            given: Given::nothing(),
+        })
     }
 
     /// Plays the request of an entry, and keeps the outcome in the entry. Whatever the engine represented, and whatever it has played
@@ -169,13 +151,8 @@ impl<B: Bank, C: Validator> Engine<B, C> {
     /// further one. If memory runs out, nothing is changed but the entry.
     #[inline(always)]
     pub fn play(&mut self, entry: &mut Entry) -> Result<(), StepFault>
-        requires begun { IsBegun entry.old }
-        requires fits { Fits entry.old.actor entry.old.request }
-        requires live { self.old.state.ended ≡ false }
-        requires room { HasRoom self.old entry.old.request }
-        ensures steps { OnPlayed result (Steps B.Bank C.Validator self.old self.new (entry.old.actor, entry.old.request) entry.new result) }
-        ensures live { OnOk result (self.new.state.ended ≡ false) }
-        ensures err { result ≡ Err StepFault.Memory → self.new ≡ self.old }
+        requires { MayBePlayed self.old entry.old }
+        ensures { HasPlayed B.Bank C.Validator self.old self.new (entry.old, entry.new) result }
     {
         self.works.play(entry)
     }
@@ -184,17 +161,10 @@ impl<B: Bank, C: Validator> Engine<B, C> {
     /// by the call that the pin was lent for, the reply is this very buffer, and memory can't run out; else the Read is played as by
     /// `play`.
     pub fn play_read(&mut self, entry: &mut Entry, pin: &Pin, slice: Bytes) -> Result<(), StepFault>
-        requires begun { IsBegun entry.old }
-        requires fits { Fits entry.old.actor entry.old.request }
-        requires live { self.old.state.ended ≡ false }
-        requires room { HasRoom self.old entry.old.request }
+        requires may { MayBePlayed self.old entry.old }
         requires pin { MayStillPin pin.now self.old }
         requires slice { IsSliceOf pin.now entry.old.request slice.list }
-        ensures steps { OnPlayed result (Steps B.Bank C.Validator self.old self.new (entry.old.actor, entry.old.request) entry.new result) }
-        // Over any bank: what was handed in is what is answered, or the Read is refused.
-        ensures lent { StillPins pin.now self.old.gets → (result ≡ Ok tt) × GivesLent self.old.state slice entry.new }
-        ensures live { OnOk result (self.new.state.ended ≡ false) }
-        ensures err { result ≡ Err StepFault.Memory → self.new ≡ self.old }
+        ensures { HasPlayedLent B.Bank C.Validator self.old self.new (entry.old, entry.new) (pin.now, slice) result }
     {
         self.works.play_read(entry, pin, slice)
     }
@@ -202,10 +172,9 @@ impl<B: Bank, C: Validator> Engine<B, C> {
     /// Lends the image that a handle pins, with the place of the call that got its address. None if the handle leads to no table, or pins
     /// no image. An Err means that the image has as many owners as can be counted.
     pub fn lend(&self, handle: u16) -> Result<Option<Pin>, Memory>
-        ensures lent { IfOk result (λ lent. lent ≡ lent_at handle (place_in self.now.gets handle) self.now.state.tables) }
-        ensures none { IfOk result (λ lent. is_some lent ≡ pins_image handle self.now.state.tables) }
-        ensures pin { IfOk result (λ lent. IfSome lent (λ pin. (past : List Entry) → IsAfter past self.now → IsOfPin pin (core_of past self.now))) }
+        ensures { LendsAny handle self.now result }
     {
-        self.works.lend(handle)
+        let place = self.works.place_of(handle);
+        self.works.parts.desk.tables.lend(handle, place)
     }
 }

@@ -1,21 +1,16 @@
 //! Requests that no packet reports, and that don't call the Critical Data Store.
 
-ghost use Rattle.std.specs.Prelude.{◌≡◌, [], true, false, Some, None, IfOk, OnOk, OnErr};
+ghost use Rattle.std.specs.Prelude.{◌≡◌, [], true, false, Some, None, OnOk};
 ghost use Rattle.tbl_kinds.specs.Requests.{Fits};
 ghost use Rattle.tbl_kinds.specs.Given.{nothing_given};
 ghost use Rattle.tbl_kinds.specs.declared.request.Actor.TheVariants as by;
 ghost use Rattle.tbl_model.specs.Dispatch.{ground_effect, app_effect};
 ghost use Rattle.request_effects.specs.Requests.{asks_store, owners_handle};
-ghost use Rattle.request_effects.specs.Reports.{nothing_reported};
-ghost use Rattle.request_effects.specs.Effects.{quiet_effect};
-ghost use Rattle.tbl_core.specs.Numbers.{AreCounts};
 ghost use Rattle.tbl_core.specs.Pins.{MayBeLent};
 ghost use Rattle.tbl_core.specs.Lent.{GivesLent};
-ghost use Rattle.tbl_core.specs.Answers.{IsBegun, Answers, moment_at, Answered};
-ghost use Rattle.tbl_model.specs.Counts.{Counts};
+ghost use Rattle.tbl_core.specs.Answers.{IsBegun, AnswersAlone, AnsweredAlone, DoesQuietly};
 ghost use Rattle.tbl_core.specs.Requests.{is_uplink, told_handle};
-ghost use Rattle.tbl_core.specs.Service.{MayPlay, Does, parts_view, AreReady};
-ghost use Rattle.tbl_kinds.specs.declared.request.Actor.{Actor};
+ghost use Rattle.tbl_core.specs.Service.{MayPlay, parts_view, AreReady};
 
 use crate::ending::put_answer;
 use crate::parts::Parts;
@@ -37,9 +32,7 @@ impl<B: Bank, C: Validator> Parts<B, C> {
         requires fits { Fits by.Ground entry.old.request }
         requires begun { IsBegun entry.old }
         requires ready { AreReady C.Validator (parts_view self.old) }
-        requires nothing { self.old.report ≡ nothing_reported }
-        ensures answered { (counts : Counts) → AreCounts counts
-            → Answered B.Bank C.Validator (moment_at (parts_view self.old) counts entry.old) (moment_at (parts_view self.new) counts entry.new) self.new.report result }
+        ensures { AnsweredAlone B.Bank C.Validator (parts_view self.old) (parts_view self.new) entry.old entry.new result }
     {
         let answer = self.uplink(&mut entry.request)?;
         put_answer(&mut entry.reply, answer);
@@ -51,10 +44,8 @@ impl<B: Bank, C: Validator> Parts<B, C> {
         requires fits { Fits by.Ground request.old }
         requires uplink { is_uplink request.old ≡ true }
         requires ready { MayPlay C.Validator (parts_view self.old) }
-        ensures does { IfOk result (λ answer. Does C.Validator 0 (parts_view self.old) (parts_view self.new) (λ s given. ground_effect s request.old given) (quiet_effect answer [])) }
+        ensures quietly { DoesQuietly C.Validator (parts_view self.old) (parts_view self.new) (λ s given. ground_effect s request.old given) [] result }
         ensures request { OnOk result (request.new ≡ request.old) }
-        ensures report { self.new.report ≡ self.old.report }
-        ensures err { OnErr result (parts_view self.new ≡ parts_view self.old) }
     {
         match request {
             Request::File { file: uplink } => file(&mut self.desk.drawer, uplink),
@@ -81,9 +72,7 @@ impl<B: Bank, C: Validator> Parts<B, C> {
         requires fits { Fits (by.App app) request.now }
         requires ready { MayPlay C.Validator (parts_view self.old) }
         requires empty { bytes.old.list ≡ [] }
-        ensures does { IfOk result (λ answer. Does C.Validator 0 (parts_view self.old) (parts_view self.new) (λ s given. app_effect s app request.now given) (quiet_effect answer bytes.new.list)) }
-        ensures report { self.new.report ≡ self.old.report }
-        ensures err { OnErr result (parts_view self.new ≡ parts_view self.old) }
+        ensures { DoesQuietly C.Validator (parts_view self.old) (parts_view self.new) (λ s given. app_effect s app request.now given) bytes.new.list result }
     {
         match request {
             Request::Get { handle } => Ok(get(&mut self.desk, app, *handle)),
@@ -132,9 +121,7 @@ impl<B: Bank, C: Validator> Parts<B, C> {
         requires owners { owners_handle request.now ≡ Some handle }
         requires silent { told_handle request.now ≡ None }
         requires ready { MayPlay C.Validator (parts_view self.old) }
-        ensures does { IfOk result (λ answer. Does C.Validator 0 (parts_view self.old) (parts_view self.new) (λ s given. app_effect s app request.now given) (quiet_effect answer [])) }
-        ensures report { self.new.report ≡ self.old.report }
-        ensures err { OnErr result (parts_view self.new ≡ parts_view self.old) }
+        ensures { DoesQuietly C.Validator (parts_view self.old) (parts_view self.new) (λ s given. app_effect s app request.now given) [] result }
     {
         let desk = &mut self.desk;
         let row = match check(&desk.tables, &desk.apps, app, handle, true) {
@@ -162,8 +149,7 @@ impl<B: Bank, C: Validator> Parts<B, C> {
         requires fits { Fits entry.old.actor entry.old.request }
         requires ready { AreReady C.Validator (parts_view self.old) }
         requires lent { MayBeLent entry.old.request self.old.desk.tables slice.list }
-        ensures answers { (counts : Counts) → AreCounts counts
-            → Answers B.Bank C.Validator (moment_at (parts_view self.old) counts entry.old) (moment_at (parts_view self.new) counts entry.new) nothing_reported }
+        ensures answers { AnswersAlone B.Bank C.Validator (parts_view self.old) (parts_view self.new) entry.old entry.new }
         ensures given { entry.new.given ≡ nothing_given }
         ensures lent { GivesLent (parts_view self.old) slice entry.new }
     {

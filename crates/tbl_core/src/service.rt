@@ -1,29 +1,17 @@
 //! The core, and one step of it.
 
-ghost use Rattle.std.specs.Prelude.{◌≡◌, ◌≢◌, true, false, ◌^◌, ◌<◌, ◌≤◌, ◌↔◌, Option, Some, [], length, Err, IsTrue, OnOk, All, IfOk, IfErr, IfSome, is_some};
-ghost use Rattle.tbl_model.specs.State.{first_state};
-ghost use Rattle.cds_store.specs.Moments.{ShowsIn};
-ghost use Rattle.tbl_kinds.specs.declared.request.ResetKind.TheVariants.{Processor};
-ghost use Rattle.tbl_outside.specs.Bank.{LeavesOnly};
-ghost use Rattle.tbl_kinds.specs.Requests.{Fits};
-ghost use Rattle.tbl_kinds.specs.Records.{record_limit};
+ghost use Rattle.std.specs.Prelude.{◌≡◌, false, ◌^◌, ◌<◌, ◌≤◌, ◌↔◌, length, IsTrue, All};
 ghost use Rattle.tbl_kinds.specs.Places.{bank_size};
-ghost use Rattle.cds_layout.specs.Images.{store_of};
-ghost use Rattle.tbl_core.specs.BankAsked.{BootAsks};
-ghost use Rattle.tbl_core.specs.Ended.{OnPlayed};
-ghost use Rattle.tbl_core.specs.Stepped.{Stepped};
+ghost use Rattle.tbl_kinds.specs.Records.{record_limit};
+ghost use Rattle.tbl_kinds.specs.Requests.{Fits};
+ghost use Rattle.tbl_core.specs.Entering.{Advances, AdvancesLent, Lends};
 ghost use Rattle.tbl_core.specs.Log.{IsSmall};
-ghost use Rattle.tbl_core.specs.Lent.{StillPins, LastGives};
-ghost use Rattle.validation.specs.Kits.{owners};
-ghost use Rattle.tbl_outside.specs.Counts.{Still};
-ghost use Rattle.tbl_registry.specs.Lending.{pins_image, lent_at};
-ghost use Rattle.tbl_core.specs.Pins.{place_in, IsSliceOf};
-ghost use Rattle.tbl_core.specs.declared.service.StartFault.TheVariants.{Memory as NoMemory};
-ghost use Rattle.tbl_core.specs.Service.{FollowsFrom, AskedBelow, PinsOnward, IsOfPin, start_fault, StartCounted};
-ghost use Rattle.tbl_kinds.specs.declared.entry.Entry.{Entry};
+ghost use Rattle.tbl_core.specs.Pins.{IsSliceOf};
+ghost use Rattle.tbl_core.specs.Starting.{StartsCore};
+ghost use Rattle.tbl_core.specs.Service.{AskedBelow, IsOfPin, start_fault};
 
 use crate::engine::Engine;
-use crate::log::Log;
+use crate::log::{push_played, push_read};
 use cds_store::BankFault;
 use std::alloc::Global;
 use std::marker::Model;
@@ -69,7 +57,7 @@ impl From<BankFault> for StartFault {
 /// history of all that was requested and answered.
 #[derive(Drop)]
 pub struct Core<B: Bank, C: Validator> {
-    log: Log,
+    entries: Vec<Entry>,
     engine: Engine<B, C>,
 }
 
@@ -78,11 +66,12 @@ impl<B: Bank, C: Validator> Model for Core<B, C> {
 
     ghost Value = { CoreView B C };
 
-    ghost use Rattle.tbl_core.specs.Service.{core_of, IsAfter};
+    ghost use Rattle.tbl_core.specs.Entering.{IsKept};
+    ghost use Rattle.tbl_core.specs.Service.{core_of};
 
-    ghost view = { λ c. core_of c.log.entries c.engine };
+    ghost view = { λ c. core_of c.entries.items c.engine };
 
-    ghost invariant = { λ c. IsAfter c.log.entries c.engine };
+    ghost invariant = { λ c. IsKept c.entries.items c.engine };
 }
 
 impl<B: Bank, C: Validator> Core<B, C> {
@@ -97,27 +86,11 @@ impl<B: Bank, C: Validator> Core<B, C> {
     ) -> Result<Core<B, C>, Back<StartFault, B>>
         requires room { bank_size ≤ B.size bank }
         requires asked { AskedBelow C.asked (2 ^ 62) kit }
-        // The blocks are those that the bank shows.
-        ensures stands { IfOk result (FollowsFrom B.Bank (first_state (store_of (B.now bank)) (owners kit) admit)) }
-        ensures kit { IfOk result (λ core. core.state.kit ≡ kit) }
-        ensures admit { IfOk result (λ core. core.state.admit ≡ admit) }
-        ensures empty { IfOk result (λ core. core.entries ≡ []) }
-        ensures live { IfOk result (λ core. core.state.ended ≡ false) }
-        ensures counts { IfOk result (λ core. Still B.faults B.stops bank core.state.store.bank) }
-        // A reset at any moment in it leaves the blocks that the bank showed, also if there is no service then.
-        ensures crash { IfOk result (λ core. B.tells_moments → LeavesOnly B.clock B.left_since bank core.state.store.bank (ShowsIn (store_of (B.now bank)))) }
-        ensures crash_err { IfErr result (λ back. B.tells_moments → LeavesOnly B.clock B.left_since bank back.bank (ShowsIn (store_of (B.now bank)))) }
-        ensures cause { IfErr result (λ back. StartCounted B.Bank bank back.bank back.cause) }
-        // The bank was asked what a boot asks, and no more.
-        ensures asked { IfOk result (λ core. B.tells → BootAsks B.Bank (Some Processor) bank core.state.store.bank true) }
-        ensures asked_err { IfErr result (λ back. back.cause ≢ NoMemory → B.tells → BootAsks B.Bank (Some Processor) bank back.bank false) }
-        // Out of memory comes before anything is asked of the bank.
-        ensures memory { IfErr result (λ back. back.cause ≡ NoMemory → back.bank ≡ bank) }
-        ensures room_err { IfErr result (λ back. bank_size ≤ B.size back.bank) }
+        ensures { StartsCore B.Bank bank kit admit result }
     {
         match Engine::start(alloc, bank, kit, admit) {
             Ok(engine) => Ok(Core {
-                log: Log::make(alloc),
+                entries: Vec::new(alloc),
                 engine,
             }),
             Err(back) => Err(back),
@@ -137,7 +110,7 @@ impl<B: Bank, C: Validator> Core<B, C> {
         ensures entries { result.now ≡ self.now.entries }
         ensures small { All IsSmall result.now }
     {
-        self.log.entries()
+        self.entries.as_slice()
     }
 
     /// Whether the service plays a further request: no boot of it has failed or was stopped.
@@ -154,13 +127,15 @@ impl<B: Bank, C: Validator> Core<B, C> {
         requires fits { Fits actor request }
         requires live { self.old.state.ended ≡ false }
         requires room { length self.old.entries < record_limit }
-        ensures stepped { OnPlayed result ((e : Entry) × Stepped B.Bank C.Validator self.old self.new (actor, request) e result) }
-        // What a handle pins after it, it pinned before, or it got the address in it.
-        ensures pins { OnPlayed result (PinsOnward self.old self.new) }
-        ensures live { OnOk result (self.new.state.ended ≡ false) }
-        ensures err { result ≡ Err StepFault.Memory → self.new ≡ self.old }
+        ensures { Advances B.Bank C.Validator self.old self.new (actor, request) result }
     {
-        self.log.play(&mut self.engine, actor, request)
+        let Ok(begun) = self.engine.begin(actor, request) else {
+            return Err(StepFault::Memory);
+        };
+        if self.entries.reserve(1).is_err() {
+            return Err(StepFault::Memory);
+        }
+        push_played(&mut self.entries, begun, &mut self.engine)
     }
 
     /// Plays a Read by a handle whose image was lent, like `step`, with the bytes that were taken of it before. If the handle still
@@ -177,24 +152,21 @@ impl<B: Bank, C: Validator> Core<B, C> {
         requires room { length self.old.entries < record_limit }
         requires pin { IsOfPin pin.now self.old }
         requires slice { IsSliceOf pin.now request slice.list }
-        // Over any bank: what was handed in is what is answered, or the Read is refused.
-        ensures lent { StillPins pin.now self.old.gets → OnPlayed result (LastGives self.old.state self.old.entries self.new.entries slice) }
-        ensures stepped { OnPlayed result ((e : Entry) × Stepped B.Bank C.Validator self.old self.new (actor, request) e result) }
-        // What a handle pins after it, it pinned before, or it got the address in it.
-        ensures pins { OnPlayed result (PinsOnward self.old self.new) }
-        ensures live { OnOk result (self.new.state.ended ≡ false) }
-        ensures err { result ≡ Err StepFault.Memory → self.new ≡ self.old }
+        ensures { AdvancesLent B.Bank C.Validator self.old self.new (actor, request) (pin.now, slice) result }
     {
-        self.log
-            .play_read(&mut self.engine, actor, request, pin, slice)
+        let Ok(begun) = self.engine.begin(actor, request) else {
+            return Err(StepFault::Memory);
+        };
+        if self.entries.reserve(1).is_err() {
+            return Err(StepFault::Memory);
+        }
+        push_read(&mut self.entries, begun, &mut self.engine, pin, slice)
     }
 
     /// Lends the image that a handle pins, with the place of the call that got its address. None if the handle leads to no table, or pins
     /// no image. An Err means that the image has as many owners as can be counted.
     pub fn lend(&self, handle: u16) -> Result<Option<Pin>, Memory>
-        ensures lent { IfOk result (λ lent. lent ≡ lent_at handle (place_in self.now.gets handle) self.now.state.tables) }
-        ensures none { IfOk result (λ lent. is_some lent ≡ pins_image handle self.now.state.tables) }
-        ensures pin { IfOk result (λ lent. IfSome lent (λ pin. IsOfPin pin self.now)) }
+        ensures { Lends handle self.now result }
     {
         self.engine.lend(handle)
     }

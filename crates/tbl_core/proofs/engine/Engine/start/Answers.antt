@@ -19,69 +19,58 @@ invariant_of-result g c = record {
   few = omega (arith, c.in-Ok.ensures.images);
   booted = search rules;
   kit = λ number entry there.
-      let low = c.requires.asked number entry (subst (λ kit. entry_at kit number ≡ Some entry) c.in-Ok.ensures.kit there) in
+      let low = c.requires.asked number entry (subst (λ kit. entry_at kit number ≡ Some entry) c.in-Ok.ensures.functions there) in
       omega (arith, low);
   images = no_images c.in-Ok.works.parts.desk.tables c.in-Ok.ensures.tables;
   numbers = rw c.in-Ok.ensures.counts none_counted;
   places = c.in-Ok.ensures.places;
 }
 
-pub returns-in-Ok-boot-clause-after : goal.returns-in-Ok-boot-clause-after
-returns-in-Ok-boot-clause-after g c = record {
-  played = sym c.in-Ok.ensures.played;
-  gets = λ handle h p within at pin. absurd (no_handle c.in-Ok.works.parts.desk.tables handle h c.in-Ok.ensures.tables at);
-}
-
-pub returns-in-Ok-boot-clause-stands : goal.returns-in-Ok-boot-clause-stands
-returns-in-Ok-boot-clause-stands g c =
+pub returns-in-Ok-boot : goal.returns-in-Ok-boot
+returns-in-Ok-boot g c =
     let b = g.B.Bank in
+    let new = c.in-Ok.ensures in
+    let store = c.in-Ok.works.parts.store in
+    let booted = c.boot.new.self in
     let bytes = b.now c.args.bank in
-    stands_first b c.args.kit c.args.admit (store_of bytes) (works_view (record c.in-Ok.works { parts = record c.in-Ok.works.parts { store = c.boot.new.self } })) (record {
-      counts = c.in-Ok.ensures.counts;
-      tables = c.in-Ok.ensures.tables;
-      pending = c.in-Ok.ensures.pending;
-      drawer = c.in-Ok.ensures.drawer;
-      apps = c.in-Ok.ensures.apps;
-      functions = c.in-Ok.ensures.kit;
-      lists = c.in-Ok.ensures.admit;
-      seconds = c.in-Ok.ensures.seconds;
-      sub = c.in-Ok.ensures.sub;
-      live = c.in-Ok.ensures.ended;
+    record {
+      stands = stands_first b c.args.bank c.args.kit c.args.admit (store_of bytes) (works_view c.in-Ok.works) booted new
+          (λ told. subst (HasBlocks b.tells b.now booted) (ap (λ bank. store_of (b.now bank)) new.held)
+          (subst (HasBlocks b.tells b.now booted) (booted_alike (b.now store.bank) c.in-Ok-boot._found) (c.in-Ok-boot.ensures.boots.ok told (store_of (b.now store.bank)) (inr (told, refl)))));
+      after = record { played = sym new.played; gets = λ handle h p within at pin. absurd (no_handle c.in-Ok.works.parts.desk.tables handle h new.tables at) };
+      kit = new.functions;
+      admit = new.lists;
+      live = new.live;
+      counts = search rules;
+      crash = start_leaves b store booted c.args.bank new.held c.boot.ensures.boots.moments g.met.B.Bank.tells_both;
+      asked = λ told. subst (λ (bank : g.row.B.Denot). BootAsks b (Some Processor) bank booted.bank true) new.held
+          (subst (λ (done : Bool). BootAsks b (Some Processor) store.bank booted.bank done) (ap is_ok c.in-Ok-boot.is) (c.boot.ensures.boots.bank_calls told));
+    }
+
+pub returns-in-Err-boot : goal.returns-in-Err-boot
+returns-in-Err-boot g c =
+    let b = g.B.Bank in
+    let new = c.in-Ok.ensures in
+    let store = c.in-Ok.works.parts.store in
+    let booted = c.boot.new.self in
+    rw c.end.ensures.bank (record {
+      crash_err = start_leaves b store booted c.args.bank new.held c.boot.ensures.boots.moments g.met.B.Bank.tells_both;
+      cause = subst (λ bank. StartCounted b bank booted.bank c.from.result) new.held
+          (rw c.from.ensures (start_counted b store.bank booted.bank c.boot.result c.in-Err-boot.fault c.in-Err-boot.is c.boot.ensures.boots.counted));
+      asked_err = λ other told. subst (λ (bank : g.row.B.Denot). BootAsks b (Some Processor) bank booted.bank false) new.held
+          (subst (λ (done : Bool). BootAsks b (Some Processor) store.bank booted.bank done) (ap is_ok c.in-Err-boot.is) (c.boot.ensures.boots.bank_calls told));
+      memory = search rules;
+      room_err = search rules;
     })
-    (λ told. subst (HasBlocks b.tells b.now c.boot.new.self) (ap (λ bank. store_of (b.now bank)) c.in-Ok.ensures.bank)
-    (subst (HasBlocks b.tells b.now c.boot.new.self) (booted_alike (b.now c.in-Ok.works.parts.store.bank) c.in-Ok-boot._found) (c.in-Ok-boot.ensures.boots.ok told (store_of (b.now c.in-Ok.works.parts.store.bank)) (inr (told, refl)))))
 
-pub returns-in-Err-boot-clause-cause : goal.returns-in-Err-boot-clause-cause
-returns-in-Err-boot-clause-cause g c =
+-- out of memory before the boot
+pub returns-in-Err : goal.returns-in-Err
+returns-in-Err g c =
     let b = g.B.Bank in
-    subst (λ bank. StartCounted b bank c.end.result c.from.result) c.in-Ok.ensures.bank
-    (rw (c.end.ensures.bank, c.from.ensures) (start_counted b c.in-Ok.works.parts.store.bank c.boot.new.self.bank c.boot.result c.in-Err-boot.fault c.in-Err-boot.is c.boot.ensures.boots.counted))
-
-pub returns-in-Ok-boot-clause-crash : goal.returns-in-Ok-boot-clause-crash
-returns-in-Ok-boot-clause-crash g c told =
-    let b = g.B.Bank in
-    start_leaves b c.in-Ok.works.parts.store c.boot.new.self c.args.bank c.in-Ok.ensures.bank c.boot.ensures.boots.moments g.met.B.Bank.tells_both told
-
-pub returns-in-Err-boot-clause-crash_err : goal.returns-in-Err-boot-clause-crash_err
-returns-in-Err-boot-clause-crash_err g c told =
-    let b = g.B.Bank in
-    rw c.end.ensures.bank
-    (start_leaves b c.in-Ok.works.parts.store c.boot.new.self c.args.bank c.in-Ok.ensures.bank c.boot.ensures.boots.moments g.met.B.Bank.tells_both told)
-
-pub returns-in-Err-clause-crash_err : goal.returns-in-Err-clause-crash_err
-returns-in-Err-clause-crash_err g c told =
-    let b = g.B.Bank in
-    rw c.in-Err.ensures.err
-    (stays_shown b g.met.B.Bank.leaves_only_now g.met.B.Bank.only_now c.args.bank told)
-
-pub returns-in-Ok-boot-clause-asked : goal.returns-in-Ok-boot-clause-asked
-returns-in-Ok-boot-clause-asked g c told =
-    let b = g.B.Bank in
-    subst (λ (bank : g.row.B.Denot). BootAsks b (Some Processor) bank c.boot.new.self.bank true) c.in-Ok.ensures.bank
-    (subst (λ (done : Bool). BootAsks b (Some Processor) c.in-Ok.works.parts.store.bank c.boot.new.self.bank done) (ap is_ok c.in-Ok-boot.is) (c.boot.ensures.boots.bank_calls told))
-
-pub returns-in-Err-boot-clause-asked_err : goal.returns-in-Err-boot-clause-asked_err
-returns-in-Err-boot-clause-asked_err g c other told =
-    let b = g.B.Bank in
-    rw c.end.ensures.bank (subst (λ (bank : g.row.B.Denot). BootAsks b (Some Processor) bank c.boot.new.self.bank false) c.in-Ok.ensures.bank
-    (subst (λ (done : Bool). BootAsks b (Some Processor) c.in-Ok.works.parts.store.bank c.boot.new.self.bank done) (ap is_ok c.in-Err-boot.is) (c.boot.ensures.boots.bank_calls told)))
+    rw c.in-Err.ensures (record {
+      crash_err = stays_shown b g.met.B.Bank.leaves_only_now g.met.B.Bank.only_now c.args.bank;
+      cause = search rules;
+      asked_err = λ other. absurd (other refl);
+      memory = λ _. refl;
+      room_err = c.requires.room;
+    })

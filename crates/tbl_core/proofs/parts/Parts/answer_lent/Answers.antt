@@ -18,7 +18,7 @@ returns g c =
           (λ s stands. let e = is s stands.tables stands.apps in search rules) (λ s stands. let e = is s stands.tables stands.apps in search rules) refl c.read_lent-answer.ensures.quiet))
           c.requires.ready
           (λ told blocks stands. uncalled_leaves b g.met.B.Bank.leaves_only_now g.met.B.Bank.only_now c.args.self.now.store _ blocks refl (stands.shows told))
-          c.requires.begun.reply.no_packets refl are);
+          c.requires.begun.reply.no_packets refl refl are);
       given = c.requires.begun.nothing;
       lent = rw (c.put_answer.ensures, c.in-App-Read.is-1, c.in-App-Read.is-0) (record {
         answered = λ s stands. let e = is s stands.tables stands.apps in record { effect = _; effect_is = refl; status = sym e.status; bytes = sym e.bytes };

@@ -7,35 +7,30 @@ use Rattle.tbl_core.proofs.BootedAfter.{is_made}
 use Rattle.tbl_core.proofs.parts.Parts.command.Goals as goal
 
 pub boot_if_stopped-requires-clause-fresh : goal.boot_if_stopped-requires-clause-fresh
-boot_if_stopped-requires-clause-fresh g c stop = ((c.in_ok-note.ensures.makes c.in-Command.bytes (c.read.ensures ∙ ap command_in c.bytes.ensures)).stopped stop).1
+boot_if_stopped-requires-clause-fresh g c stop = ((c.in_ok-note.ensures.made c.in-Command.bytes (c.read.ensures ∙ ap command_in c.bytes.ensures)).makes.stopped stop).1
 
 pub boot_if_stopped-requires-clause-live : goal.boot_if_stopped-requires-clause-live
 boot_if_stopped-requires-clause-live g c stop =
-    let makes = c.in_ok-note.ensures.makes c.in-Command.bytes (c.read.ensures ∙ ap command_in c.bytes.ensures) in
+    let makes = (c.in_ok-note.ensures.made c.in-Command.bytes (c.read.ensures ∙ ap command_in c.bytes.ensures)).makes in
     makes.ended ∙ (makes.stopped stop).1.ended
 
 pub tell_command-requires-clause-few : goal.tell_command-requires-clause-few
-tell_command-requires-clause-few g c = rw c.boot_if_stopped.ensures.report (c.in_ok-note.ensures.makes c.in-Command.bytes (c.read.ensures ∙ ap command_in c.bytes.ensures)).within.events
+tell_command-requires-clause-few g c = (c.in_ok-note.ensures.made c.in-Command.bytes (c.read.ensures ∙ ap command_in c.bytes.ensures)).makes.within.events
 
 pub tell_command-requires-clause-code : goal.tell_command-requires-clause-code
-tell_command-requires-clause-code g c = rw c.boot_if_stopped.ensures.report (c.in_ok-note.ensures.makes c.in-Command.bytes (c.read.ensures ∙ ap command_in c.bytes.ensures)).within.notice
+tell_command-requires-clause-code g c = (c.in_ok-note.ensures.made c.in-Command.bytes (c.read.ensures ∙ ap command_in c.bytes.ensures)).makes.within.notice
 
 pub returns : goal.returns
 returns g c =
-    let b = g.B.Bank in
-    let v = g.C.Validator in
     let packet = c.in-Command.bytes in
     let read = c.read.ensures ∙ ap command_in c.bytes.ensures in
-    let boot = c.boot_if_stopped.ensures in
-    let makes = c.in_ok-note.ensures.makes packet read in
-    let made = is_made b v (parts_view c.args.self.now) (parts_view c.command_effect.new.self) (parts_view c.boot_if_stopped.new.self) (ask.Command packet) (λ s given. ground_effect s (ask.Command packet) given) _ c.boot_if_stopped.new.note
-    makes (c.in_ok-note.ensures.meets packet read) boot.note boot.held boot.boots boot.found boot.moments boot.asked (λ stop. refl) boot.trouble boot.booted in
-    rw (c.keep_given.ensures, boot.report, c.requires.actor, c.in-Command.is) (record {
-      answered = record {
-        actor_is = refl;
-        request_is = refl;
-        made = made;
-        told = rw (← boot.report) (rw c.answer_in-answer.ensures at (c.tell_command.ensures.tells (ask.Command packet) (ap (λ r. Some r) (sym read)) c.command_effect.new.reply.bytes.list c.boot_if_stopped.new.note));
-        small = record { bytes = makes.within.bytes; packets = c.tell_command.ensures.len };
-      };
+    let was = c.in_ok-note.ensures.made packet read in
+    let made = is_made g.B.Bank g.C.Validator (parts_view c.args.self.now) (parts_view c.command_effect.new.self) (parts_view c.boot_if_stopped.new.self) (ask.Command packet) (λ s given. ground_effect s (ask.Command packet) given) _ c.boot_if_stopped.new.note
+    was.makes was.meets c.boot_if_stopped.ensures (λ stop. refl) in
+    rw (c.keep_given.ensures, c.requires.actor, c.in-Command.is) (record {
+      actor_is = refl;
+      request_is = refl;
+      made = made;
+      told = rw c.answer_in-answer.ensures at (c.tell_command.ensures.tells (ask.Command packet) (ap (λ r. Some r) (sym read)) c.command_effect.new.reply.bytes.list c.boot_if_stopped.new.note);
+      small = record { bytes = was.makes.within.bytes; packets = c.tell_command.ensures.len };
     })

@@ -1,9 +1,24 @@
-use Rattle.tbl_core.proofs.Steps.{on_played}
-use Rattle.tbl_core.proofs.Stepping.{stepped, pins}
+use Rattle.std.proofs.Common.{arith, inl, sym, subst, List}
+use Rattle.tbl_kinds.specs.declared.entry.Entry.{Entry}
+use Rattle.tbl_core.specs.Entering.{IsKept}
 use Rattle.tbl_core.proofs.service.Core.step.Goals as goal
 
-pub returns-clause-stepped : goal.returns-clause-stepped
-returns-clause-stepped g c = rw (← c.self.view_is) (on_played c.play.result (λ d. stepped g.B.Bank g.C.Validator _ _ _ _ c.args.actor c.args.request c.play.result d) c.play.ensures.steps)
+pub push_played-requires-clause-may : goal.push_played-requires-clause-may
+push_played-requires-clause-may g c =
+    let room = rw (← c.self.view_is) at c.requires.room in
+    let after = c.self.invariant.after in
+    record {
+      begun = c.in-Ok.ensures.begun;
+      fits = rw (c.in-Ok.ensures.actor, c.in-Ok.ensures.request) c.requires.fits;
+      live = rw (← c.self.view_is) at c.requires.live;
+      room = record {
+        requests = omega (arith, after.played, room);
+        images = inl (omega (arith, after.played, room, c.in-Ok.ensures.few));
+      };
+    }
 
-pub returns-clause-pins : goal.returns-clause-pins
-returns-clause-pins g c = rw (← c.self.view_is) (on_played c.play.result (λ d. pins g.B.Bank g.C.Validator _ _ _ _ c.args.actor c.args.request c.play.result d c.self.invariant) c.play.ensures.steps)
+pub push_played-requires-clause-kept : goal.push_played-requires-clause-kept
+push_played-requires-clause-kept g c = subst (λ (es : List Entry). IsKept es c.self.inside.engine) (sym c.reserve.ensures.items) c.self.invariant
+
+pub returns : goal.returns
+returns g c = rw (← c.self.view_is, ← c.in-Ok.ensures.actor, ← c.in-Ok.ensures.request, ← c.reserve.ensures.items) c.push_played.ensures.steps
