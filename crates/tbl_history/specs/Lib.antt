@@ -1,3 +1,4 @@
 pub mod Surviving
 pub mod Trouble
 pub mod Serving
+pub mod Opening
