@@ -1,6 +1,7 @@
-ghost use Rattle.std.specs.Prelude.{◌≡◌, ◌-◌, ◌+◌, ◌<◌, ◌↔◌, ◌++◌, ◌∷◌, [], ℕ, List, Some, None, IsTrue, IsSome, IsNone, IfOk, IfNone, IfSome, OnOk, OnErr, length, take, position, slice_get};
+ghost use Rattle.std.specs.Prelude.{◌≡◌, ◌-◌, ◌+◌, ◌<◌, ◌++◌, ◌∷◌, [], None, IsTrue, IsSome, IfOk, IfNone, IfSome, OnOk, OnErr, length, take, position, slice_get};
 ghost use Rattle.std.specs.Option.{option_copied};
-ghost use Rattle.tbl_kinds.specs.Drawer.{contents_of, names, undone, with_file, IsFullFor};
+ghost use Rattle.tbl_kinds.specs.Drawer.{contents_of, names, undone, with_file};
+ghost use Rattle.file_drawer.specs.Calls.{IsAt, Finds, Replaces, CanUndo, Puts};
 ghost use Rattle.file_drawer.specs.Entries.{files_of, is_named};
 
 use crate::contents::Contents;
@@ -68,7 +69,7 @@ impl Entry {
 
 /// Whether the file of this name is at a place.
 fn is_at(entries: &[Entry], place: usize, name: &Name64) -> bool
-    ensures at { IsTrue result → slice_get (names (files_of entries.now)) place ≡ Some name.now }
+    ensures at { IsTrue result → IsAt (files_of entries.now) place name.now }
     ensures within { IsTrue result → place < length entries.now }
 {
     match entries.get(place) {
@@ -88,7 +89,7 @@ fn first_of(entries: &[Entry], name: &Name64) -> Option<usize>
 /// The place of the file of this name: the place of the hint is looked at first.
 #[tactic(auto, using(crate::proofs::Finding::first_named, crate::proofs::Finding::none_named))]
 fn find(entries: &[Entry], hint: u8, name: &Name64) -> Option<usize>
-    ensures at { IfSome result (λ place. slice_get (names (files_of entries.now)) place ≡ Some name.now) }
+    ensures at { IfSome result (λ place. IsAt (files_of entries.now) place name.now) }
     ensures within { IfSome result (λ place. place < length entries.now) }
     ensures absent { IfNone result (contents_of (files_of entries.now) name.now ≡ None) }
 {
@@ -151,9 +152,7 @@ impl Drawer {
 
     /// The place of the file of a name.
     fn place_of(&self, name: &Name64) -> Option<usize>
-        ensures at { IfSome result (λ place. slice_get (names self.now) place ≡ Some name.now) }
-        ensures within { IfSome result (λ place. place < length self.now) }
-        ensures absent { IfNone result (contents_of self.now name.now ≡ None) }
+        ensures { Finds self.now name.now result }
     {
         find(&self.entries, self.hints[hint_of(name.bytes())], name)
     }
@@ -174,27 +173,14 @@ impl Drawer {
     /// Other contents at a place, and those that were there.
     fn replace(&mut self, place: usize, contents: Contents) -> Contents
         requires { place < length self.old }
-        ensures file { (name : List ℕ) → slice_get (names self.old) place ≡ Some name → self.new ≡ with_file self.old name contents }
-        ensures replaced { (name : List ℕ) → slice_get (names self.old) place ≡ Some name → contents_of self.old name ≡ Some result }
+        ensures { Replaces place contents self.old self.new result }
     {
         mem::replace(&mut self.entries[place].contents, contents)
     }
 
     /// Puts a file under its name, and gives the contents that it replaced. The contents are moved and not copied.
     pub fn put(&mut self, name: &Name64, contents: Contents) -> Result<Option<Contents>, PutFault>
-        // A name that is there keeps its place, and a new one is put last.
-        ensures file { OnOk result (self.new ≡ with_file self.old name.now contents) }
-        ensures replaced { IfOk result (λ old. old ≡ contents_of self.old name.now) }
-
-        // What `undo` needs, and what it then leaves.
-        ensures there { OnOk result (IsSome (contents_of self.new name.now)) }
-        ensures last { IfOk result (λ old. IfNone old (slice_get (names self.new) (length self.new - 1) ≡ Some name.now)) }
-        ensures undone { IfOk result (λ old. undone self.new name.now old ≡ self.old) }
-
-        // A name that is there is never refused.
-        ensures full { (result ≡ Err PutFault.Full) ↔ IsFullFor self.old name.now }
-        ensures memory { result ≡ Err PutFault.Memory → IsNone (contents_of self.old name.now) }
-        ensures err { OnErr result (self.new ≡ self.old) }
+        ensures { Puts name.now contents self.old self.new result }
     {
         if let Some(place) = self.place_of(name) {
             return Ok(Some(self.replace(place, contents)));
@@ -221,8 +207,7 @@ impl Drawer {
 
     /// Takes back what `put` did to a name, by what it gave. It takes no memory.
     pub fn undo(&mut self, name: &Name64, old: Option<Contents>)
-        requires there { IsSome (contents_of self.old name.now) }
-        requires last { IfNone old (slice_get (names self.old) (length self.old - 1) ≡ Some name.now) }
+        requires { CanUndo self.old name.now old }
         ensures { self.new ≡ undone self.old name.now old }
     {
         match old {
