@@ -1,8 +1,12 @@
 -- What calls of a drawer promise.
-use Rattle.std.specs.Prelude.{◌≡◌, ◌-◌, ◌<◌, ◌↔◌, ℕ, List, length, slice_get, Option, None, Some, IsSome, IsNone, IfSome, IfNone, Result, Err, IfOk, OnOk, OnErr}
+use Rattle.std.specs.Prelude.{◌≡◌, ◌-◌, ◌<◌, ◌↔◌, ℕ, List, length, take, slice_get, Option, None, Some, IsSome, IsNone, IfSome, IfNone, Result, Err, IfOk, OnOk, OnErr}
 use Rattle.tbl_kinds.specs.Drawer.{File, contents_of, names, undone, with_file, IsFullFor}
 use Rattle.file_drawer.specs.declared.drawer.PutFault.{PutFault}
 use Rattle.file_drawer.specs.declared.drawer.PutFault.TheVariants.{Full, Memory}
+
+-- all but the last of some files
+abbrev pub without_last : List File → List File
+without_last files = take (length files - 1) files
 
 -- the file of this name is at this place
 abbrev pub IsAt : List File → ℕ → List ℕ → Type 0

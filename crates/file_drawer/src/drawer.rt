@@ -1,7 +1,7 @@
-ghost use Rattle.std.specs.Prelude.{◌≡◌, ◌-◌, ◌+◌, ◌<◌, ◌++◌, ◌∷◌, [], None, IsTrue, IsSome, IfOk, IfNone, IfSome, OnOk, OnErr, length, take, position, slice_get};
+ghost use Rattle.std.specs.Prelude.{◌≡◌, ◌+◌, ◌<◌, ◌++◌, ◌∷◌, [], None, IsTrue, IsSome, IfOk, IfNone, IfSome, OnOk, OnErr, length, position, slice_get};
 ghost use Rattle.std.specs.Option.{option_copied};
 ghost use Rattle.tbl_kinds.specs.Drawer.{contents_of, names, undone, with_file};
-ghost use Rattle.file_drawer.specs.Calls.{IsAt, Finds, Replaces, CanUndo, Puts};
+ghost use Rattle.file_drawer.specs.Calls.{without_last, IsAt, Finds, Replaces, CanUndo, Puts};
 ghost use Rattle.file_drawer.specs.Entries.{files_of, is_named};
 
 use crate::contents::Contents;
@@ -113,7 +113,7 @@ fn push(entries: &mut Vec<Entry>, name: &Name64, contents: Contents) -> Result<(
 }
 
 fn drop_last(entries: &mut Vec<Entry>)
-    ensures { files_of entries.new.items ≡ take (length (files_of entries.old.items) - 1) (files_of entries.old.items) }
+    ensures { files_of entries.new.items ≡ without_last (files_of entries.old.items) }
 {
     let _ = entries.pop();
 }
