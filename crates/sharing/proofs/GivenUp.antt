@@ -1,5 +1,5 @@
 -- Handles are given up, alone or with the table that they registered, and applications end.
-use Rattle.std.proofs.Common.{◌≡◌, ◌≢◌, ◌∙◌, ℕ, suc, zero, ◌+◌, List, length, Bool, true, false, cond, Option, Some, None, IsSome, refl, sym, ap, inl, inr, arith}
+use Rattle.std.proofs.Common.{◌≡◌, ◌≢◌, ◌∙◌, ℕ, suc, zero, ◌+◌, List, length, Bool, true, false, cond, Option, Some, None, IsSome, refl, sym, ap, subst, inl, inr, arith}
 use Rattle.std.specs.List.{fold, range_with_len}
 use Rattle.std.specs.Option.{option_map}
 use Rattle.std.proofs.lemmas.Bool.{cases_eq, eq-eqb}
@@ -17,6 +17,7 @@ use Rattle.tbl_model.specs.Fit.{CanValidate}
 use Rattle.validation.specs.Ready.{ArePending, HaveLoads}
 use Rattle.validation.proofs.Ready.{stays_there, loads_keep}
 use Rattle.tbl_model.specs.Effects.{left_with}
+use Rattle.sharing.specs.Leaving.{GivesUp}
 
 -- ---- a table goes with the handle that registered it
 
@@ -68,10 +69,6 @@ back_loads number tables (Some row) all = loads_keep (without_handle number tabl
 
 -- ---- who holds a handle
 
-pub holds : (place : Option Handle) (holder : ℕ) → Some holder ≡ option_map (λ (h : Handle). h.app) place → IsSome place
-holds None holder is = absurd (cc is)
-holds (Some h) holder is = cc
-
 pub is_holder : (app : ℕ) (place : Option Handle) → is_handle_of app place ≡ is_that app (option_map (λ (h : Handle). h.app) place)
 is_holder app None = refl
 is_holder app (Some h) = refl
@@ -91,6 +88,14 @@ module _ (s : State) (tables : Tables) (pending : List (ℕ × Bool)) (kept : s.
 
   pub gives_up_if : (app number : ℕ) (b : Bool) → b ≡ is_handle_of app (handle_at tables number) → give_up_if app s number ≡ cond b (give_up number s) s
   gives_up_if app number b is = ap (λ (t : Tables). cond (is_handle_of app (handle_at t number)) (give_up number s) s) kept ∙ ap (λ (b : Bool). cond b (give_up number s) s) (sym is)
+
+-- nothing was given up
+pub gives_none : (tables : Tables) (pending : List (ℕ × Bool)) (Leads : State → State → Type 0) → ((s : State) → s.tables ≡ tables → s.pending ≡ pending → Leads s s) → GivesUp tables tables pending pending Leads
+gives_none tables pending Leads stays = record {
+  effect = λ s kept same. subst (Leads s) (stays_left s tables pending kept same) (stays s kept same);
+  pending = λ all. all;
+  loads = λ all. all;
+}
 
 -- ---- all numbers in turn
 

@@ -1,9 +1,8 @@
 -- A full name has no zero byte, and is a name if its parts are names.
 use Rattle.std.proofs.Common.{◌≡◌, ℕ, ◌+◌, nat_lt, Bool, true, not, List, [], ◌∷◌, ◌++◌, length, take, refl, ap, ◌∙◌, sym, eqb, eq-eqb, length-append, append_assoc, arith}
-use Rattle.std.proofs.lemmas.List.Folds.{length-prefix_len, prefix_len-append}
+use Rattle.std.proofs.lemmas.List.Folds.{length-prefix_len, prefix_len-append, list_all-append}
 use Rattle.std.proofs.Math.Seq.{take-length}
 use Rattle.std.proofs.lemmas.Bool.{and_parts, and_from, lt-ltb}
-use Rattle.std.proofs.lemmas.List.Folds.{list_all-append}
 use Rattle.std.specs.List.{prefix_len, list_all}
 use Rattle.tbl_kinds.specs.Names.{is_zero, is_printable_byte, is_name, name_in, HasNoZero}
 use Rattle.tbl_model.specs.Applications.{full_name}

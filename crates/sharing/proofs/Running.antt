@@ -2,7 +2,7 @@
 use Rattle.std.proofs.Common.{◌≡◌, ◌∙◌, ℕ, List, Bool, true, false, not, Option, Some, None, IsNone, is_some, ◌↔◌, refl, sym, ap}
 use Rattle.std.specs.Option.{option_map}
 use Rattle.tbl_kinds.specs.Telemetry.{registry_record}
-use Rattle.tbl_kinds.specs.declared.status.TheConstants.Status.{SUCCESS, ERR_INVALID_NAME, ERR_INVALID_HANDLE, ERR_NO_ACCESS}
+use Rattle.tbl_kinds.specs.declared.status.TheConstants.Status.{SUCCESS, ERR_INVALID_HANDLE, ERR_NO_ACCESS}
 use Rattle.tbl_model.specs.State.{State, Table, Handle, Tables}
 use Rattle.tbl_model.specs.Tables.{table_at}
 use Rattle.tbl_model.specs.TableSteps.{find, handle_at}

@@ -1,3 +1,4 @@
 pub mod Apps
+pub mod Finding
 pub mod Leaving
 pub mod Registering

@@ -1,14 +1,12 @@
 //! Further handles on registered tables, what the registry says of a table, and notices of pending work.
 
-ghost use Rattle.std.specs.Prelude.{◌≡◌, ◌<◌, ◌-◌, IsSome, IfOk, IfErr};
-ghost use Rattle.std.specs.Option.{ForSome};
+ghost use Rattle.std.specs.Prelude.{◌≡◌, IsSome};
 ghost use Rattle.tbl_kinds.specs.Free.{least_free};
-ghost use Rattle.tbl_kinds.specs.Telemetry.{registry_record};
 ghost use Rattle.tbl_model.specs.State.{State};
 ghost use Rattle.tbl_model.specs.Tables.{table_at};
-ghost use Rattle.tbl_model.specs.Effects.{answered, answered_with};
-ghost use Rattle.tbl_model.specs.Registry.{registry_row};
+ghost use Rattle.tbl_model.specs.Effects.{answered_with};
 ghost use Rattle.tbl_model.specs.Sharing.{share_by, share_effect, is_notice, noticed_effect, info_effect};
+ghost use Rattle.sharing.specs.Finding.{Finds};
 
 use crate::apps::Apps;
 use tbl_kinds::{Answer, Name40, Status};
@@ -49,10 +47,7 @@ pub fn share(tables: &mut Tables, apps: &Apps, app: u8, name: &Name40) -> Answer
 /// bytes that `Tables::write_info` writes. `ERR_BAD_APP`: the application doesn't run; `ERR_INVALID_NAME`: no table has this name.
 #[tactic(auto, unfolding(tbl_model::specs::Sharing::info_effect))]
 pub fn row_of(tables: &Tables, apps: &Apps, app: u8, name: &Name40) -> Result<u8, Status>
-    ensures ok { IfOk result (λ row. (s : State) → s.tables ≡ tables.now → s.apps ≡ apps.now
-        → ForSome (table_at tables.now row) (λ t. info_effect s app name.now ≡ record (answered s Status.SUCCESS 0) { bytes = registry_record (registry_row t) })) }
-    ensures table { IfOk result (λ row. IsSome (table_at tables.now row)) }
-    ensures err { IfErr result (λ status. (s : State) → s.tables ≡ tables.now → s.apps ≡ apps.now → info_effect s app name.now ≡ answered s status 0) }
+    ensures { Finds tables.now apps.now (λ s. info_effect s app name.now) result }
 {
     if apps.name(app).is_none() {
         return Err(Status::ERR_BAD_APP);

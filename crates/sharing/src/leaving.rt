@@ -1,14 +1,12 @@
 //! Handles that are given back, tables that go with them, and applications that end.
 
-ghost use Rattle.std.specs.Prelude.{◌≡◌, ◌-◌, IsSome, None, Some, length, slice_set, if◌then◌else◌};
+ghost use Rattle.std.specs.Prelude.{◌≡◌, IsSome, Some, if◌then◌else◌};
 ghost use Rattle.tbl_kinds.specs.Statuses.{is_success};
-ghost use Rattle.tbl_model.specs.State.{State};
 ghost use Rattle.tbl_model.specs.TableSteps.{handle_at, registered_by, without_handle, remove};
-ghost use Rattle.tbl_model.specs.Sharing.{is_handle_of, give_up, give_up_if, without_handles_of, unregister_by, unregister_effect, exit_effect};
-ghost use Rattle.tbl_model.specs.Effects.{answered, answered_left, left_with};
+ghost use Rattle.tbl_model.specs.Sharing.{is_handle_of, give_up, give_up_if, without_handles_of, unregister_effect, exit_effect};
+ghost use Rattle.tbl_model.specs.Effects.{answered_left};
 ghost use Rattle.validation.specs.Kits.{owners, dropped};
-ghost use Rattle.validation.specs.Ready.{ArePending, HaveLoads};
-ghost use Rattle.sharing.specs.Leaving.{ended_with};
+ghost use Rattle.sharing.specs.Leaving.{GivesUp};
 
 use crate::apps::Apps;
 use tbl_kinds::{Answer, Status};
@@ -29,9 +27,7 @@ fn take_away(tables: &mut Tables, handle: u16, row: u8)
 /// Gives a handle up. That of a table's registration takes the table with it, and all validations that are pending for it.
 fn give_up(tables: &mut Tables, pending: &mut Pending, handle: u16)
     requires { IsSome (handle_at tables.old handle) }
-    ensures effect { (s : State) → s.tables ≡ tables.old → s.pending ≡ pending.old → give_up handle s ≡ left_with s tables.new pending.new }
-    ensures pending { ArePending tables.old pending.old → ArePending tables.new pending.new }
-    ensures loads { HaveLoads tables.old → HaveLoads tables.new }
+    ensures { GivesUp tables.old tables.new pending.old pending.new (λ s next. give_up handle s ≡ next) }
 {
     match tables.registered_by(handle) {
         Some(row) => {
@@ -40,23 +36,6 @@ fn give_up(tables: &mut Tables, pending: &mut Pending, handle: u16)
         }
         None => tables.free_handle(handle),
     }
-}
-
-/// Gives a handle up for an application, if it is that application's.
-fn give_back(tables: &mut Tables, pending: &mut Pending, app: u8, handle: u16) -> Status
-    ensures effect { (s : State) → s.tables ≡ tables.old → s.pending ≡ pending.old
-        → unregister_by s app handle (handle_at tables.old handle) ≡ record (answered s result 0) { next = left_with s tables.new pending.new } }
-    ensures pending { ArePending tables.old pending.old → ArePending tables.new pending.new }
-    ensures loads { HaveLoads tables.old → HaveLoads tables.new }
-{
-    let Some(_holder) = tables.app_of(handle) else {
-        return Status::ERR_INVALID_HANDLE;
-    };
-    if !is_handle_of(tables, app, handle) {
-        return Status::ERR_NO_ACCESS;
-    }
-    give_up(tables, pending, handle);
-    Status::SUCCESS
 }
 
 /// Takes a handle back (`CFE_TBL_Unregister`), which is free again; its pin ends. If its table was registered with it, that table is gone,
@@ -70,17 +49,19 @@ pub fn unregister(
     app: u8,
     handle: u16,
 ) -> Answer
-    ensures effect { (s : State) → s.tables ≡ tables.old → s.pending ≡ pending.old → s.apps ≡ apps.now → unregister_effect s app handle ≡ answered_left s result (left_with s tables.new pending.new) }
-    ensures pending { ArePending tables.old pending.old → ArePending tables.new pending.new }
-    ensures loads { HaveLoads tables.old → HaveLoads tables.new }
+    ensures { GivesUp tables.old tables.new pending.old pending.new (λ s next. s.apps ≡ apps.now → unregister_effect s app handle ≡ answered_left s result next) }
 {
     if apps.name(app).is_none() {
         return Answer::plain(Status::ERR_BAD_APP);
     }
-    Answer {
-        status: give_back(tables, pending, app, handle),
-        detail: 0,
+    let Some(_holder) = tables.app_of(handle) else {
+        return Answer::plain(Status::ERR_INVALID_HANDLE);
+    };
+    if !is_handle_of(tables, app, handle) {
+        return Answer::plain(Status::ERR_NO_ACCESS);
     }
+    give_up(tables, pending, handle);
+    Answer::plain(Status::SUCCESS)
 }
 
 /// Whether the handle is this application's.
@@ -93,9 +74,7 @@ fn is_handle_of(tables: &Tables, app: u8, handle: u16) -> bool
 
 /// Gives a handle up if it is this application's.
 fn give_up_if(tables: &mut Tables, pending: &mut Pending, app: u8, handle: u16)
-    ensures effect { (s : State) → s.tables ≡ tables.old → s.pending ≡ pending.old → give_up_if app s handle ≡ left_with s tables.new pending.new }
-    ensures pending { ArePending tables.old pending.old → ArePending tables.new pending.new }
-    ensures loads { HaveLoads tables.old → HaveLoads tables.new }
+    ensures { GivesUp tables.old tables.new pending.old pending.new (λ s next. give_up_if app s handle ≡ next) }
 {
     if !is_handle_of(tables, app, handle) {
         return;
@@ -105,9 +84,7 @@ fn give_up_if(tables: &mut Tables, pending: &mut Pending, app: u8, handle: u16)
 
 /// Gives up the handles of an application, one after another, and so its tables.
 fn give_up_all(tables: &mut Tables, pending: &mut Pending, app: u8)
-    ensures effect { (s : State) → s.tables ≡ tables.old → s.pending ≡ pending.old → without_handles_of app s ≡ left_with s tables.new pending.new }
-    ensures pending { ArePending tables.old pending.old → ArePending tables.new pending.new }
-    ensures loads { HaveLoads tables.old → HaveLoads tables.new }
+    ensures { GivesUp tables.old tables.new pending.old pending.new (λ s next. without_handles_of app s ≡ next) }
 {
     for handle in 0..tables.handle_limit() {
         give_up_if(tables, pending, app, handle);
@@ -125,11 +102,9 @@ pub fn app_exit<C: Validator>(
     apps: &mut Apps,
     app: u8,
 ) -> Answer
-    ensures effect { (s : State) → s.tables ≡ tables.old → s.pending ≡ pending.old → s.apps ≡ apps.old → s.kit ≡ owners kit.old
-        → exit_effect s app ≡ answered_left s result (ended_with s tables.new pending.new apps.new (owners kit.new)) }
+    ensures gone { GivesUp tables.old tables.new pending.old pending.new
+        (λ s next. s.apps ≡ apps.old → s.kit ≡ owners kit.old → exit_effect s app ≡ answered_left s result (record next { apps = apps.new; kit = owners kit.new })) }
     ensures kit { kit.new ≡ (if is_success result.status then dropped app kit.old else kit.old) }
-    ensures pending { ArePending tables.old pending.old → ArePending tables.new pending.new }
-    ensures loads { HaveLoads tables.old → HaveLoads tables.new }
 {
     if apps.name(app).is_none() {
         return Answer::plain(Status::ERR_BAD_APP);
@@ -138,8 +113,5 @@ pub fn app_exit<C: Validator>(
     give_up_all(tables, pending, app);
     kit.drop_app(app);
     apps.end(app);
-    Answer {
-        status: Status::SUCCESS,
-        detail: 0,
-    }
+    Answer::plain(Status::SUCCESS)
 }

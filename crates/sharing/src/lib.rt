@@ -9,4 +9,4 @@ mod registering;
 pub use apps::{Apps, plan_name};
 pub use handles::{notify, row_of, share};
 pub use leaving::{app_exit, unregister};
-pub use registering::{plan_table, register, register_plain, register_uncritical};
+pub use registering::{Registration, plan_table, register, register_plain, register_uncritical};

@@ -1,15 +1,11 @@
-ghost use Rattle.std.specs.Prelude.{◌≡◌, length, true, false, None, Some, IfSome, IfNone, IfOk, IfErr, OnOk, OnErr, replicate, if◌then◌else◌};
-ghost use Rattle.tbl_model.specs.State.{State};
+ghost use Rattle.std.specs.Prelude.{◌≡◌, length, true, None, Some, IfSome, IfNone, IfOk, replicate, if◌then◌else◌};
 ghost use Rattle.tbl_model.specs.Tables.{option_bits, has_option, table_at};
-ghost use Rattle.tbl_model.specs.TableSteps.{with_first, uncritical, as_registered, added};
-ghost use Rattle.tbl_model.specs.Effects.{answered};
-ghost use Rattle.tbl_model.specs.BankCounts.{tells_trouble};
-ghost use Rattle.tbl_model.specs.Registration.{duplicate_answer, name_refusal, place_refusal, new_effect, register_effect};
+ghost use Rattle.tbl_model.specs.TableSteps.{with_first, uncritical, as_registered};
+ghost use Rattle.tbl_model.specs.Registration.{duplicate_answer, name_refusal, place_refusal};
 ghost use Rattle.tbl_model.specs.Refusals.{refusal, are_options, may_use, plan_refusal};
 ghost use Rattle.tbl_kinds.specs.Names.{is_name};
-ghost use Rattle.tbl_kinds.specs.declared.note.BankNote.{BankNote};
 ghost use Rattle.validation.specs.Kits.{owners};
-ghost use Rattle.sharing.specs.Registering.{next_row, next_handle, planned, CanRegister};
+ghost use Rattle.sharing.specs.Registering.{planned, CanRegister, IsPlan, Planned, TakesPlace, Placed};
 
 use crate::apps::{Apps, plan_name};
 use bitflags::Flags;
@@ -54,29 +50,32 @@ fn are_options(flags: u16) -> bool
         || flags == critical + double
 }
 
+/// What an application registers.
+#[derive(Drop)]
+pub struct Registration {
+    pub name: Name16,
+    pub size: u32,
+    pub flags: u16,
+    /// The number of its validation function, if it has one.
+    pub validator: Option<u8>,
+}
+
 /// The first thing that can't be asked for: the name, the size, the options, the validation function.
-fn plan_refusal<C: Validator>(
-    kit: &Kit<C>,
-    app: u8,
-    short: &Name16,
-    size: u32,
-    flags: u16,
-    validator: Option<u8>,
-) -> Option<Answer>
-    ensures refusal { result ≡ plan_refusal (owners kit.now) app short.now size flags validator }
-    ensures named { IfNone result (is_name short.now ≡ true) }
-    ensures options { IfNone result (are_options flags ≡ true) }
+fn plan_refusal<C: Validator>(kit: &Kit<C>, app: u8, asked: &Registration) -> Option<Answer>
+    ensures refusal { result ≡ plan_refusal (owners kit.now) app asked.now.name asked.now.size asked.now.flags asked.now.validator }
+    ensures named { IfNone result (is_name asked.now.name ≡ true) }
+    ensures options { IfNone result (are_options asked.now.flags ≡ true) }
 {
-    if !short.is_name() {
+    if !asked.name.is_name() {
         return refusal(Status::ERR_INVALID_NAME);
     }
-    if size == 0 || size > TABLE_LIMIT {
+    if asked.size == 0 || asked.size > TABLE_LIMIT {
         return refusal(Status::ERR_INVALID_SIZE);
     }
-    if !are_options(flags) {
+    if !are_options(asked.flags) {
         return refusal(Status::ERR_INVALID_OPTIONS);
     }
-    if !may_use(kit, app, validator) {
+    if !may_use(kit, app, asked.validator) {
         return refusal(Status::ERR_NO_VALIDATOR);
     }
     None
@@ -140,29 +139,18 @@ pub fn plan_table<C: Validator>(
     kit: &Kit<C>,
     apps: &Apps,
     app: u8,
-    short: &Name16,
-    size: u32,
-    flags: u16,
-    validator: Option<u8>,
+    asked: &Registration,
 ) -> Result<NewTable, Answer>
-    ensures can { IfOk result (CanRegister tables.now) }
-    ensures begins { IfOk result (λ plan. plan.first ≡ None) }
-    ensures may { IfOk result (λ plan. may_use (owners kit.now) app plan.validator ≡ true) }
-    ensures ok { IfOk result (λ plan. (s : State) (note : BankNote) → s.tables ≡ tables.now → s.kit ≡ owners kit.now → s.apps ≡ apps.now
-        → register_effect s app short.now size flags validator note ≡ new_effect s (next_row tables.now) (planned tables.now app plan) note) }
-    ensures err { IfErr result (λ answer. (s : State) (note : BankNote) → s.tables ≡ tables.now → s.kit ≡ owners kit.now → s.apps ≡ apps.now
-        → register_effect s app short.now size flags validator note ≡ answered s answer.status answer.detail) }
-    // No refusal reports trouble with the bank.
-    ensures harmless { IfErr result (λ answer. tells_trouble answer.status ≡ false) }
+    ensures { Planned tables.now (owners kit.now) apps.now app asked.now result }
 {
-    let Some(name) = plan_name(apps, app, short) else {
+    let Some(name) = plan_name(apps, app, &asked.name) else {
         return Err(Answer::plain(Status::ERR_BAD_APP));
     };
-    if let Some(answer) = plan_refusal(kit, app, short, size, flags, validator) {
+    if let Some(answer) = plan_refusal(kit, app, asked) {
         return Err(answer);
     }
     // An application that registers its table again gets its handle even if the registry is full.
-    if let Some(answer) = name_refusal(tables, app, size, &name) {
+    if let Some(answer) = name_refusal(tables, app, asked.size, &name) {
         return Err(answer);
     }
     if let Some(answer) = place_refusal(tables) {
@@ -170,9 +158,9 @@ pub fn plan_table<C: Validator>(
     }
     Ok(NewTable {
         name,
-        size,
-        flags: Options::from_bits_retain(flags),
-        validator,
+        size: asked.size,
+        flags: Options::from_bits_retain(asked.flags),
+        validator: asked.validator,
         first: None,
     })
 }
@@ -183,8 +171,7 @@ pub fn plan_table<C: Validator>(
 pub fn register(tables: &mut Tables, app: u8, plan: NewTable, status: Status) -> Answer
     requires can { CanRegister tables.old plan }
     requires first { IfSome plan.first (λ image. length image ≡ plan.size) }
-    ensures answer { result ≡ record { status = status; detail = next_handle tables.old } }
-    ensures tables { tables.new ≡ added (next_row tables.old) (with_first plan.first (planned tables.old app plan)) tables.old }
+    ensures { TakesPlace tables.old tables.new (with_first plan.first (planned tables.old app plan)) status result }
 {
     match tables.add(app, plan) {
         Ok(handle) => Answer {
@@ -197,10 +184,8 @@ pub fn register(tables: &mut Tables, app: u8, plan: NewTable, status: Status) ->
 
 /// Registers a table that was to be critical (`CFE_TBL_OPT_CRITICAL`), and isn't.
 pub fn register_uncritical(tables: &mut Tables, app: u8, plan: NewTable) -> Answer
-    requires can { CanRegister tables.old plan }
-    requires begins { plan.first ≡ None }
-    ensures answer { result ≡ record { status = Status.WARN_NOT_CRITICAL; detail = next_handle tables.old } }
-    ensures tables { tables.new ≡ added (next_row tables.old) (uncritical (planned tables.old app plan)) tables.old }
+    requires { IsPlan tables.old plan }
+    ensures { TakesPlace tables.old tables.new (uncritical (planned tables.old app plan)) Status.WARN_NOT_CRITICAL result }
 {
     let Some(row) = tables.next_row() else {
         unreachable!();
@@ -219,9 +204,7 @@ pub fn register_plain(
     plan: NewTable,
 ) -> Result<Answer, Memory>
     requires can { CanRegister tables.old plan }
-    ensures answer { IfOk result (λ answer. answer ≡ record { status = Status.SUCCESS; detail = next_handle tables.old }) }
-    ensures tables { OnOk result (tables.new ≡ added (next_row tables.old) (as_registered (planned tables.old app plan)) tables.old) }
-    ensures err { OnErr result (tables.new ≡ tables.old) }
+    ensures { Placed tables.old tables.new (as_registered (planned tables.old app plan)) Status.SUCCESS result }
 {
     let first = first_image(alloc, plan.size, &plan.flags)?;
     let plan = NewTable { first, ..plan };

@@ -22,7 +22,7 @@ use Rattle.cds_store.specs.Calls.{HasFlags, is_gate, is_old}
 use Rattle.cds_store.specs.StoreBlocks.{StoreParts, StandsFor}
 use Rattle.cds_store.specs.declared.fault.BankFault.{BankFault}
 use Rattle.cds_store.specs.declared.fault.BankFault.TheVariants.{Fault, Stopped as Cut}
-use Rattle.request_effects.specs.Effects.{IsEffect, reported_effect}
+use Rattle.request_effects.specs.Effects.{IsEffect, reported_effect, Effect}
 use Rattle.request_effects.specs.Reports.{Reported, nothing_reported}
 use Rattle.tbl_session.specs.Crashes.{DuringCalls, writes}
 use Rattle.tbl_session.specs.Restores.{RestoresHeld}
@@ -32,7 +32,6 @@ use Rattle.store_requests.proofs.Moments.{one_leaves}
 use Rattle.store_requests.specs.BankCalls.{AsksIn}
 use Rattle.store_requests.specs.Called.{Leaving, with_boot, broken_note, broken_status, done_note, call_note, call_status, IsSilent, IsTold, unasked, IsCalled, Calls}
 use Rattle.tbl_model.specs.declared.telemetry.Named.{Named}
-use Rattle.request_effects.specs.Effects.{Effect}
 use Rattle.tbl_outside.specs.declared.bank.Bank.{Ghosts}
 
 -- ---- the effect

@@ -32,21 +32,19 @@ use Rattle.cds_store.specs.declared.fault.BankFault.{BankFault}
 use Rattle.cds_store.specs.declared.fault.BankFault.TheVariants.{Fault, Stopped as Cut}
 use Rattle.cds_store.specs.declared.fault.ReserveFault.{ReserveFault}
 use Rattle.cds_store.specs.declared.fault.ReserveFault.TheVariants.{NoRoom, Bank}
-use Rattle.request_effects.specs.Effects.{IsEffect}
+use Rattle.request_effects.specs.Effects.{IsEffect, Effect}
 use Rattle.store_requests.specs.BankCalls.{AsksIn}
 use Rattle.store_requests.proofs.BankCalls.{words_outcome, read_outcome}
 use Rattle.store_requests.specs.Called.{with_boot, broken_note, done_note, reserve_note, torn_note, unasked, IsCalled, Calls, Leaving}
 use Rattle.tbl_session.specs.Restores.{RestoresHeld}
 use Rattle.store_requests.specs.Entering.{Enters, EntersBroken, EntersRecovered, EntersWithout, EntersRestored, EntersReserved}
 use Rattle.store_requests.specs.Registering.{recovery}
-use Rattle.request_effects.specs.Effects.{Effect}
-use Rattle.store_requests.proofs.Calls.{told_so, by_note}
+use Rattle.store_requests.proofs.Calls.{told_so, by_note, broke_held}
 use Rattle.tbl_session.specs.Crashes.{DuringCalls, writes}
 use Rattle.store_requests.proofs.CriticalTables.{there}
 use Rattle.tbl_outside.specs.declared.bank.Bank.{Ghosts}
 use Rattle.cds_store.specs.Promises.{Restores}
 use Rattle.store_requests.proofs.RestoreCalls.{image_held, torn_held, gives_image, gives_none}
-use Rattle.store_requests.proofs.Calls.{broke_held}
 
 -- ---- the effect
 

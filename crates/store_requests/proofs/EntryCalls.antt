@@ -16,10 +16,9 @@ use Rattle.cds_store.specs.StoreBlocks.{StoreParts}
 use Rattle.cds_store.specs.declared.fault.BankFault.{BankFault}
 use Rattle.cds_store.specs.declared.fault.BankFault.TheVariants.{Fault, Stopped as Cut}
 use Rattle.tbl_model.specs.BankCounts.{tells_trouble, HasCause}
-use Rattle.request_effects.specs.Effects.{IsWithin}
+use Rattle.request_effects.specs.Effects.{IsWithin, Effect}
 use Rattle.store_requests.specs.Called.{NoBoot, Troubled, broken_note, done_note, IsTold, IsSilent, IsUngiven, IsCall, torn_note}
 use Rattle.store_requests.specs.Entering.{Enters, EntersBroken, EntersWithout, EntersRestored}
-use Rattle.request_effects.specs.Effects.{Effect}
 use Rattle.store_requests.proofs.CopyEnds.{rose_one}
 use Rattle.tbl_outside.specs.declared.bank.Bank.{Ghosts}
 

@@ -1,5 +1,5 @@
 -- What the model says of a block of an application's own, once its slot is known.
-use Rattle.std.specs.Prelude.{◌≡◌, ℕ, ◌==◌, ◌≤◌, true, List, [], ◌∷◌, length, Some, if◌then◌else◌}
+use Rattle.std.specs.Prelude.{◌≡◌, ℕ, ◌==◌, ◌≤◌, true, false, List, [], ◌∷◌, length, Option, Some, Result, Ok, Err, if◌then◌else◌}
 use Rattle.tbl_kinds.specs.Blocks.{Stored, Store as Blocks}
 use Rattle.tbl_kinds.specs.Names.{is_name}
 use Rattle.tbl_kinds.specs.StoreSteps.{has_room}
@@ -7,15 +7,18 @@ use Rattle.tbl_kinds.specs.declared.block.BlockKind.{BlockKind}
 use Rattle.tbl_kinds.specs.declared.status.Status.{Status}
 use Rattle.tbl_outside.specs.declared.bank.Bank.{Ghosts}
 use Rattle.cds_store.specs.Slots.{open_slot}
+use Rattle.cds_store.specs.Sound.{slot_at, IsOpenOf}
 use Rattle.cds_store.specs.StoreBlocks.{StoreParts, StandsFor}
 use Rattle.store_requests.specs.Called.{CanKeep}
 use Rattle.store_requests.specs.declared.own_blocks.GiveRoom.{GiveRoom}
+use Rattle.store_requests.specs.declared.own_blocks.Own.{Own}
 use Rattle.tbl_kinds.specs.Notes.{restored_image}
 use Rattle.tbl_kinds.specs.StoreCalls.{copy, restore, delete}
 use Rattle.tbl_kinds.specs.declared.block.BlockKind.TheVariants as kind
 use Rattle.tbl_kinds.specs.declared.note.BankNote.{BankNote}
 use Rattle.tbl_kinds.specs.declared.status.TheConstants.Status.{SUCCESS, ERR_IMAGE_SIZE}
 use Rattle.tbl_model.specs.State.{State}
+use Rattle.tbl_model.specs.BankCounts.{tells_trouble}
 use Rattle.tbl_model.specs.Effects.{Effect, answered}
 use Rattle.tbl_model.specs.StoreUse.{then_call}
 use Rattle.tbl_model.specs.AppBlocks.{faulted, if_block, new_slot, renewal, restore_answer}
@@ -43,6 +46,22 @@ FindsOwn s app slot size = (effect : Stored → Effect) → (b : Stored) × (b.b
 -- it has none, and is answered so
 abbrev pub Misses : State → ℕ → ℕ → Status → Type 0
 Misses s app slot status = (effect : Stored → Effect) → if_block s app slot effect ≡ answered s status 0
+
+-- of these applications this one has a block of its own under this number
+pub record HasOwn {B : Type 0} (g : Ghosts B) (store : StoreParts B) (apps : List (Option (List ℕ))) (app number : ℕ) (own : Own) : Type 0 where
+  pub slot : own.slot ≡ number
+  pub sized : IsOpenOf own.size (slot_at store.slots own.slot)
+  pub within : own.size ≤ 16384
+  pub ok : (s : State) → s.apps ≡ apps → StandsFor g.tells g.now store s.store → FindsOwn s app number own.size
+
+-- it has none, and the answer reports no trouble with the bank
+pub record LacksOwn {B : Type 0} (g : Ghosts B) (store : StoreParts B) (apps : List (Option (List ℕ))) (app number : ℕ) (status : Status) : Type 0 where
+  pub err : (s : State) → s.apps ≡ apps → StandsFor g.tells g.now store s.store → Misses s app number status
+  pub harmless : tells_trouble status ≡ false
+
+abbrev pub OwnBlock : {B : Type 0} → Ghosts B → StoreParts B → List (Option (List ℕ)) → ℕ → ℕ → Result Own Status → Type 0
+OwnBlock g store apps app number (Ok own) = HasOwn g store apps app number own
+OwnBlock g store apps app number (Err status) = LacksOwn g store apps app number status
 
 -- ---- what holds before a block is made
 

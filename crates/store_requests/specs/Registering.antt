@@ -1,5 +1,5 @@
 -- What a registration promises, and what the model says of the block of a critical table.
-use Rattle.std.specs.Prelude.{◌≡◌, ◌⊎◌, ℕ, suc, List, [], ◌∷◌, length, Option, None, Result, Ok, Err, IfSome}
+use Rattle.std.specs.Prelude.{◌≡◌, ◌⊎◌, ℕ, suc, List, [], ◌∷◌, length, Option, Result, Ok, Err, IfSome}
 use Rattle.tbl_kinds.specs.Notes.{restored_image}
 use Rattle.tbl_kinds.specs.StoreCalls.{restore}
 use Rattle.tbl_kinds.specs.StoreSteps.{open_of}
@@ -12,20 +12,13 @@ use Rattle.tbl_model.specs.Fit.{AreFit}
 use Rattle.tbl_model.specs.StoreUse.{then_call}
 use Rattle.tbl_model.specs.AppBlocks.{renewal}
 use Rattle.tbl_model.specs.CriticalTables.{registered, not_kept, recovered, instead, kept_effect}
-use Rattle.tbl_model.specs.Registration.{register_effect}
 use Rattle.tbl_model.specs.TableSteps.{new_table, with_first, added}
 use Rattle.tbl_registry.specs.declared.row.NewTable.{NewTable}
 use Rattle.cds_store.specs.StoreBlocks.{StoreParts}
 use Rattle.sharing.specs.Registering.{next_row, next_handle, planned, CanRegister}
 use Rattle.store_requests.specs.Requests.{Site, Made, with_tables}
-use Rattle.store_requests.specs.declared.registering.Registration.{Registration}
 use Rattle.request_effects.specs.Effects.{Effect}
 use Rattle.tbl_outside.specs.declared.bank.Bank.{Ghosts}
-
--- what holds of a plan before its block is known: nothing is in its way, and it has no image yet
-pub record IsPlan (tables : Tables) (plan : NewTable) : Type 0 where
-  pub can : CanRegister tables plan
-  pub begins : plan.first ≡ None
 
 -- the registry and the store
 pub record Books (B : Type 0) : Type 0 where
@@ -69,10 +62,6 @@ pub record Registers {B : Type 0} (g : Ghosts B) (old new : Books B) (app : ℕ)
 abbrev pub Registered : {B E : Type 0} → Ghosts B → Books B → Books B → ℕ → NewTable → (State → BankNote → Model) → Result Effect E → Type 0
 Registered g old new app plan means (Ok done) = Registers g old new app plan means done
 Registered g old new app plan means (Err e) = new ≡ old
-
--- what an application's registration means
-abbrev pub registering : State → ℕ → Registration → BankNote → Model
-registering s app asked note = register_effect s app asked.name asked.size asked.flags asked.validator note
 
 -- what holds of all tables still does, if no table had more images before than so many
 abbrev pub KeepsFit : {B : Type 0} → Site B → Site B → Type 0

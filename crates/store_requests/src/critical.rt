@@ -1,18 +1,14 @@
 //! The block of a critical table that is registered: it is found in the Critical Data Store, or made there.
 
 ghost use Rattle.std.specs.Arc.{arc_value};
-ghost use Rattle.std.specs.Prelude.{◌≡◌, ◌<◌, length, None, Some, IfSome, IfNone, IfOk, true};
-ghost use Rattle.tbl_kinds.specs.Blocks.{Store as Blocks};
+ghost use Rattle.std.specs.Prelude.{◌≡◌, length, Some, IfSome, IfNone, IfOk, true};
 ghost use Rattle.tbl_kinds.specs.declared.block.BlockKind.TheVariants as kind;
-ghost use Rattle.tbl_model.specs.Copies.{block_of};
 ghost use Rattle.cds_store.specs.Promises.{Restores};
-ghost use Rattle.cds_store.specs.Slots.{open_slot};
 ghost use Rattle.cds_store.specs.Sound.{slot_at, IsOpenOf};
-ghost use Rattle.cds_store.specs.StoreBlocks.{StandsFor};
-ghost use Rattle.sharing.specs.Registering.{next_row, planned};
+ghost use Rattle.sharing.specs.Registering.{next_row, planned, IsPlan};
 ghost use Rattle.store_requests.specs.OwnBlocks.{CanRenew};
 ghost use Rattle.store_requests.specs.Called.{IsFresh};
-ghost use Rattle.store_requests.specs.Registering.{IsPlan, Registers, Registered, books, keeping, making, recovery};
+ghost use Rattle.store_requests.specs.Registering.{Registers, Registered, books, keeping, making, recovery};
 
 use crate::effect::Effect;
 use crate::entering::{lost, reserved, restored};
@@ -105,48 +101,7 @@ fn renew<B: Bank>(
     }
 }
 
-/// Registers a critical table that has an open block of another size in this slot.
-fn keep_again<B: Bank>(
-    alloc: Global,
-    tables: &mut Tables,
-    store: &mut Store<B>,
-    app: u8,
-    slot: u8,
-    plan: NewTable,
-) -> Result<Effect, Memory>
-    requires booted { store.old.booted ≡ true }
-    requires plan { IsPlan tables.old plan }
-    requires open_block { open_slot kind.Table plan.name store.old.slots ≡ Some slot }
-    requires slot { slot < 128 }
-    requires other { (blocks : Blocks) → StandsFor B.tells B.now store.old blocks → block_of (planned tables.old app plan) blocks ≡ None }
-    ensures registered { Registered B.Bank (books tables.old store.old) (books tables.new store.new) app plan (λ s. keeping s tables.old app plan) result }
-{
-    if !store.room(plan.size, Some(slot)) {
-        return Ok(Effect::of(register_uncritical(tables, app, plan)));
-    }
-    let note = note_room(alloc)?;
-    Ok(renew(tables, store, app, slot, plan, note))
-}
-
-/// Registers a critical table that has no open block.
-fn keep_new<B: Bank>(
-    alloc: Global,
-    tables: &mut Tables,
-    store: &mut Store<B>,
-    app: u8,
-    plan: NewTable,
-) -> Result<Effect, Memory>
-    requires booted { store.old.booted ≡ true }
-    requires plan { IsPlan tables.old plan }
-    requires none_open { open_slot kind.Table plan.name store.old.slots ≡ None }
-    ensures registered { Registered B.Bank (books tables.old store.old) (books tables.new store.new) app plan (λ s. keeping s tables.old app plan) result }
-{
-    let note = note_room(alloc)?;
-    let made = store.reserve_block(BlockKind::Table, &plan.name, plan.size);
-    Ok(reserved(tables, app, plan, made, note))
-}
-
-/// Registers a critical table: its image is restored from its block, or a block is made for it.
+/// Registers a critical table: its image is restored from its open block, or a block is made for it, in the place of one of another size.
 pub(crate) fn keep<B: Bank>(
     alloc: Global,
     tables: &mut Tables,
@@ -161,8 +116,15 @@ pub(crate) fn keep<B: Bank>(
     if let Some(slot) = sized_block(store, &plan.name, plan.size as usize) {
         return recover(alloc, tables, store, app, slot, plan);
     }
-    match store.find(BlockKind::Table, &plan.name) {
-        Some(slot) => keep_again(alloc, tables, store, app, slot, plan),
-        None => keep_new(alloc, tables, store, app, plan),
+    let Some(slot) = store.find(BlockKind::Table, &plan.name) else {
+        let note = note_room(alloc)?;
+        let made = store.reserve_block(BlockKind::Table, &plan.name, plan.size);
+        return Ok(reserved(tables, app, plan, made, note));
+    };
+    // Its block has another size.
+    if !store.room(plan.size, Some(slot)) {
+        return Ok(Effect::of(register_uncritical(tables, app, plan)));
     }
+    let note = note_room(alloc)?;
+    Ok(renew(tables, store, app, slot, plan, note))
 }

@@ -1,11 +1,10 @@
 //! How a critical table is entered into the registry, by how the calls for its block ended.
 
-ghost use Rattle.std.specs.Prelude.{◌≡◌, ◌<◌, length, Some};
+ghost use Rattle.std.specs.Prelude.{◌≡◌, ◌<◌, length};
 ghost use Rattle.cds_layout.specs.Restores.{words};
-ghost use Rattle.sharing.specs.Registering.{planned};
-ghost use Rattle.store_requests.specs.Called.{CanKeep, IsFresh, torn_note};
-ghost use Rattle.store_requests.specs.Registering.{IsPlan};
-ghost use Rattle.store_requests.specs.Entering.{Enters, EntersBroken, EntersRecovered, EntersRestored, EntersReserved, EntersWithout};
+ghost use Rattle.sharing.specs.Registering.{planned, IsPlan};
+ghost use Rattle.store_requests.specs.Called.{CanKeep, IsFresh};
+ghost use Rattle.store_requests.specs.Entering.{EntersBroken, EntersRestored, EntersReserved, EntersWithout};
 
 use crate::effect::Effect;
 use crate::notes::{RestoreNote, done, note_broken, note_torn};
@@ -37,35 +36,6 @@ pub(crate) fn lost(
 
 // ---- a restore
 
-/// Its block gave this image, with which the table begins.
-fn recovered(
-    tables: &mut Tables,
-    app: u8,
-    mut plan: NewTable,
-    image: Image,
-    note: RestoreNote,
-) -> Effect
-    requires plan { IsPlan tables.old plan }
-    requires sized { length image ≡ plan.size }
-    requires room { CanKeep (length image) note }
-    ensures enters { EntersRecovered tables.old tables.new (planned tables.old app plan) result image }
-{
-    let note = note.given(image.bytes());
-    plan.first = Some(image);
-    let answer = register(tables, app, plan, Status::INFO_RECOVERED_TBL);
-    Effect::noted(answer, note)
-}
-
-/// Its block has no image, and the note says so: the table begins without one.
-fn torn(tables: &mut Tables, app: u8, plan: NewTable, words: u32, note: Box<Outside>) -> Effect
-    requires plan { IsPlan tables.old plan }
-    requires fresh { IsFresh note }
-    ensures enters { Enters tables.old tables.new (planned tables.old app plan) result Status.SUCCESS (torn_note words) }
-{
-    let answer = register(tables, app, plan, Status::SUCCESS);
-    Effect::noted(answer, note_torn(note, words))
-}
-
 /// The restore of its block gave no image: either the block was read and has none, or the bank failed.
 fn not_restored(
     tables: &mut Tables,
@@ -79,7 +49,10 @@ fn not_restored(
     ensures enters { EntersWithout tables.old tables.new (planned tables.old app plan) result (words fault) }
 {
     match fault.words() {
-        Some(words) => torn(tables, app, plan, words, note),
+        Some(words) => {
+            let answer = register(tables, app, plan, Status::SUCCESS);
+            Effect::noted(answer, note_torn(note, words))
+        }
         None => {
             let fault = BankFault::Fault {
                 gate: false,
@@ -94,7 +67,7 @@ fn not_restored(
 pub(crate) fn restored(
     tables: &mut Tables,
     app: u8,
-    plan: NewTable,
+    mut plan: NewTable,
     ended: Result<(), RestoreFault>,
     image: Image,
     note: RestoreNote,
@@ -105,7 +78,13 @@ pub(crate) fn restored(
     ensures enters { EntersRestored tables.old tables.new (planned tables.old app plan) result ended image }
 {
     match ended {
-        Ok(()) => recovered(tables, app, plan, image, note),
+        // The table begins with the image that its block gave.
+        Ok(()) => {
+            let note = note.given(image.bytes());
+            plan.first = Some(image);
+            let answer = register(tables, app, plan, Status::INFO_RECOVERED_TBL);
+            Effect::noted(answer, note)
+        }
         Err(fault) => not_restored(tables, app, plan, fault, note.note),
     }
 }

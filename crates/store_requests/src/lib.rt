@@ -17,5 +17,5 @@ pub use copies::{CopyRoom, copy_room, then_copy};
 pub use effect::Effect;
 pub use notes::note_room;
 pub use own_blocks::{cds_copy, cds_delete, cds_restore};
-pub use registering::{Registration, register};
+pub use registering::register;
 pub use table_blocks::delete_cds;

@@ -1,15 +1,12 @@
 //! An application's own blocks of the Critical Data Store: copied into, restored and deleted.
 
-ghost use Rattle.std.specs.Prelude.{◌≡◌, ◌==◌, ◌≤◌, is_some, true, false, [], length, IfSome, IfOk, IfErr};
-ghost use Rattle.tbl_model.specs.State.{State};
-ghost use Rattle.tbl_model.specs.BankCounts.{tells_trouble};
+ghost use Rattle.std.specs.Prelude.{◌≡◌, ◌≤◌, is_some, true, length, IfSome, IfOk};
 ghost use Rattle.tbl_model.specs.AppBlocks.{is_named_by, cds_copy_effect, cds_restore_effect, cds_delete_effect};
 ghost use Rattle.cds_store.specs.Sound.{slot_at, IsOpenOf};
-ghost use Rattle.cds_store.specs.StoreBlocks.{StandsFor};
 ghost use Rattle.cds_layout.specs.Restores.{words};
 ghost use Rattle.store_requests.specs.BankCalls.{asks_copy, asks_delete, asks_restore};
-ghost use Rattle.store_requests.specs.OwnBlocks.{FindsOwn, Misses, CanGive, copying, restoring};
-ghost use Rattle.store_requests.specs.Called.{IsFresh, IsGiven, IsTold, IsUngiven, is_own_slot, torn_note};
+ghost use Rattle.store_requests.specs.OwnBlocks.{OwnBlock, CanGive, copying, restoring};
+ghost use Rattle.store_requests.specs.Called.{IsFresh, IsGiven, IsUngiven, is_own_slot};
 ghost use Rattle.store_requests.specs.Requests.{Served, MadeAsking, alone, at_desk};
 
 use crate::blocks::delete;
@@ -65,12 +62,7 @@ fn find_own<B: Bank>(store: &Store<B>, app_name: &Name20, slot: u16) -> Option<O
 
 /// The application's own block in this slot, or why there is none.
 fn own_block<B: Bank>(store: &Store<B>, apps: &Apps, app: u8, slot: u16) -> Result<Own, Status>
-    ensures slot { IfOk result (λ own. own.slot ≡ slot) }
-    ensures sized { IfOk result (λ own. IsOpenOf own.size (slot_at store.now.slots own.slot)) }
-    ensures within { IfOk result (λ own. own.size ≤ 16384) }
-    ensures ok { IfOk result (λ own. (s : State) → s.apps ≡ apps.now → StandsFor B.tells B.now store.now s.store → FindsOwn s app slot own.size) }
-    ensures err { IfErr result (λ status. (s : State) → s.apps ≡ apps.now → StandsFor B.tells B.now store.now s.store → Misses s app slot status) }
-    ensures harmless { IfErr result (λ status. tells_trouble status ≡ false) }
+    ensures { OwnBlock B.Bank store.now apps.now app slot result }
 {
     let Some(app_name) = apps.name(app) else {
         return Err(Status::ERR_BAD_APP);
@@ -154,25 +146,19 @@ fn given(image: &[u8], room: GiveRoom) -> Effect
     }
 }
 
-/// A block that was read gave no image: the note and the answer say so.
-fn torn(words: u32, note: Box<Outside>) -> Effect
-    requires { IsFresh note }
-    ensures { IsTold result Status.ERR_CDS_TORN words [] (torn_note words) }
-{
-    let answer = Answer {
-        status: Status::ERR_CDS_TORN,
-        detail: words,
-    };
-    Effect::noted(answer, note_torn(note, words))
-}
-
 /// A block gave no image: either it was read and has none, or the bank failed.
 fn not_given(fault: RestoreFault, note: Box<Outside>) -> Effect
     requires { IsFresh note }
     ensures { IsUngiven result (words fault) }
 {
     match fault.words() {
-        Some(words) => torn(words, note),
+        Some(words) => {
+            let answer = Answer {
+                status: Status::ERR_CDS_TORN,
+                detail: words,
+            };
+            Effect::noted(answer, note_torn(note, words))
+        }
         None => {
             let fault = BankFault::Fault {
                 gate: false,
@@ -200,20 +186,8 @@ fn restore_into<B: Bank>(store: &mut Store<B>, slot: u8, image: &mut [u8], room:
     }
 }
 
-/// Restores the image of a block. All memory is taken before, since a read of the bank that failed has to be reported.
-fn restore_from<B: Bank>(alloc: Global, store: &mut Store<B>, own: Own) -> Result<Effect, Memory>
-    requires booted { store.old.booted ≡ true }
-    requires own { IsOpenOf own.size (slot_at store.old.slots own.slot) }
-    requires within { own.size ≤ 16384 }
-    ensures served { Served B.Bank (alone store.old) (alone store.new) (λ s. restoring s own.slot) (asks_restore own.slot) result }
-{
-    let size = own.size as usize;
-    let mut image = vec![in alloc; 0; size]?;
-    let room = GiveRoom::make(alloc, size)?;
-    Ok(restore_into(store, own.slot, &mut image, room))
-}
-
-/// An application restores the image of a block of its own (`CFE_ES_RestoreFromCDS`).
+/// An application restores the image of a block of its own (`CFE_ES_RestoreFromCDS`). All memory is taken before, since a read of the bank
+/// that failed has to be reported.
 pub fn cds_restore<B: Bank, C: Validator>(
     desk: &Desk<C>,
     store: &mut Store<B>,
@@ -223,10 +197,14 @@ pub fn cds_restore<B: Bank, C: Validator>(
     requires booted { store.old.booted ≡ true }
     ensures served { Served B.Bank (at_desk desk.now store.old) (at_desk desk.now store.new) (λ s. cds_restore_effect s app slot) (asks_restore slot) result }
 {
-    match own_block(store, &desk.apps, app, slot) {
-        Ok(own) => restore_from(desk.alloc, store, own),
-        Err(status) => Ok(Effect::plain(status)),
-    }
+    let own = match own_block(store, &desk.apps, app, slot) {
+        Ok(own) => own,
+        Err(status) => return Ok(Effect::plain(status)),
+    };
+    let size = own.size as usize;
+    let mut image = vec![in desk.alloc; 0; size]?;
+    let room = GiveRoom::make(desk.alloc, size)?;
+    Ok(restore_into(store, own.slot, &mut image, room))
 }
 
 /// An application deletes a block of its own (`CFE_ES_DeleteCDS`).

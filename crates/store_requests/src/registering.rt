@@ -2,8 +2,8 @@
 
 ghost use Rattle.std.specs.Prelude.{◌≡◌, true, IfOk, OnOk, OnErr};
 ghost use Rattle.tbl_model.specs.CriticalTables.{critical_effect};
-ghost use Rattle.sharing.specs.Registering.{next_row, planned};
-ghost use Rattle.store_requests.specs.Registering.{IsPlan, Registered, RegistersOne, KeepsFit, books, registering};
+ghost use Rattle.sharing.specs.Registering.{next_row, planned, registering, IsPlan};
+ghost use Rattle.store_requests.specs.Registering.{Registered, RegistersOne, KeepsFit, books};
 ghost use Rattle.store_requests.specs.Requests.{Made, at_desk};
 
 use crate::critical::keep;
@@ -11,9 +11,9 @@ use crate::effect::Effect;
 use bitflags::Flags;
 use cds_store::Store;
 use desk::Desk;
-use sharing::{plan_table, register_plain, register_uncritical};
+use sharing::{Registration, plan_table, register_plain, register_uncritical};
 use std::alloc::Global;
-use tbl_kinds::{Memory, Name16, Options};
+use tbl_kinds::{Memory, Options};
 use tbl_outside::{Bank, Validator};
 use tbl_registry::{NewTable, Tables};
 
@@ -38,16 +38,6 @@ fn register_critical<B: Bank>(
     keep(alloc, tables, store, app, plan)
 }
 
-/// What an application registers.
-#[derive(Drop)]
-pub struct Registration {
-    pub name: Name16,
-    pub size: u32,
-    pub flags: u16,
-    /// The number of its validation function, if it has one.
-    pub validator: Option<u8>,
-}
-
 /// An application registers a table (`CFE_TBL_Register`).
 #[inline(never)]
 pub fn register<B: Bank, C: Validator>(
@@ -65,23 +55,7 @@ pub fn register<B: Bank, C: Validator>(
     ensures err_tables { OnErr result (desk.new.tables ≡ desk.old.tables) }
     ensures err_store { OnErr result (store.new ≡ store.old) }
 {
-    let Registration {
-        name,
-        size,
-        flags,
-        validator,
-    } = asked;
-    let planned = plan_table(
-        &desk.tables,
-        &desk.kit,
-        &desk.apps,
-        app,
-        name,
-        *size,
-        *flags,
-        *validator,
-    );
-    let plan = match planned {
+    let plan = match plan_table(&desk.tables, &desk.kit, &desk.apps, app, asked) {
         Ok(plan) => plan,
         Err(answer) => return Ok(Effect::of(answer)),
     };

@@ -9,9 +9,8 @@ ghost use Rattle.tbl_model.specs.Counts.{is_reset};
 ghost use Rattle.tbl_core.specs.Service.{AreReady, parts_view, step_of};
 
 use crate::parts::{Parts, Telemetry};
-use store_requests::{
-    Effect, Registration, cds_copy, cds_delete, cds_register, cds_restore, register,
-};
+use sharing::Registration;
+use store_requests::{Effect, cds_copy, cds_delete, cds_register, cds_restore, register};
 use tbl_kinds::{Entry, Given, Memory, Request};
 use tbl_outside::{Bank, Validator};
 

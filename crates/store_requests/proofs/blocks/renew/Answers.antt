@@ -6,14 +6,13 @@ use Rattle.tbl_kinds.specs.Notes.{untouched}
 use Rattle.tbl_model.specs.AppBlocks.{new_slot}
 use Rattle.store_requests.specs.Called.{reserve_note, done_note, broken_note}
 use Rattle.store_requests.proofs.Calls.{by_note, told_with, first_broke, flags_break}
-use Rattle.store_requests.proofs.Reserved.{renewed}
+use Rattle.store_requests.proofs.Reserved.{renewed, room_left}
 use Rattle.store_requests.proofs.Moments.{one_leaves, two_leave}
-use Rattle.store_requests.proofs.Reserved.{room_left}
 use Rattle.tbl_kinds.specs.StoreSteps.{doubtful_of}
 use Rattle.cds_store.proofs.Reservations.{doubtful_same}
 use Rattle.cds_store.specs.declared.fault.BankFault.{BankFault}
 use Rattle.cds_store.specs.declared.slot.Slot.{Slot}
-use Rattle.cds_store.specs.Slots.{doubtful_slot, without_slot, room_in}
+use Rattle.cds_store.specs.Slots.{doubtful_slot, without_slot, room_in, is_open_slot}
 use Rattle.cds_layout.specs.Order.{delete_calls, reserve_calls}
 use Rattle.tbl_outside.specs.BankCalls.{BankCall, Asks}
 use Rattle.std.specs.Option.{ForSome, option_map}
@@ -21,7 +20,6 @@ use Rattle.std.specs.Prelude.{is_ok, ◌++◌, slice_set}
 use Rattle.store_requests.specs.BankCalls.{AsksBy, make_at}
 use Rattle.store_requests.proofs.BankCalls.{bank_calls_renew, bank_calls_first, asked_first, renewed_asked}
 use Rattle.store_requests.proofs.blocks.renew.Goals as goal
-use Rattle.cds_store.specs.Slots.{is_open_slot}
 use Rattle.store_requests.proofs.OwnBlocks.{found_there}
 use Rattle.store_requests.specs.OwnBlocks.{renewing}
 use Rattle.tbl_kinds.specs.Blocks.{Store as Blocks}
