@@ -1,6 +1,5 @@
 -- Loads, validations, updates and edits by the owner of a table, by cases.
 use Rattle.std.proofs.Common.{◌≡◌, ℕ, List, length, Bool, true, false, not, Option, Some, None, refl, ℤ}
-use Rattle.std.proofs.Common.{ℤ}
 use Rattle.std.proofs.lemmas.Bool.{not-false, cond_both}
 use Rattle.tbl_kinds.specs.Numbers.{patched}
 use Rattle.tbl_kinds.specs.TableFiles.{TableFile}

@@ -10,8 +10,7 @@ use Rattle.tbl_model.specs.Pending.{is_pending}
 use Rattle.tbl_model.specs.Given.{Given, verdict_at}
 use Rattle.tbl_model.specs.Telemetry.{Question, activated}
 use Rattle.tbl_model.specs.Refusals.{update_refusal}
-use Rattle.tbl_model.specs.Management.{Done, then_validate, then_update, then_fill, with_validation, with_fill, is_requested}
-use Rattle.tbl_model.specs.Management.{with_update as with_updated}
+use Rattle.tbl_model.specs.Management.{Done, then_validate, then_update, then_fill, with_validation, with_fill, is_requested, with_update as with_updated}
 use Rattle.tbl_model.specs.declared.telemetry.TelemetryEvent.{TelemetryEvent}
 use Rattle.tbl_outside.specs.declared.validator.KitEntry.{KitEntry}
 use Rattle.validation.specs.Kits.{owners}

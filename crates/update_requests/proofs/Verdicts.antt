@@ -1,13 +1,11 @@
 -- The images of a table are judged, one after another.
-use Rattle.std.proofs.Common.{◌≡◌, ◌+◌, ◌≤◌, ◌-◌, ◌^◌, ◌<◌, ℕ, suc, List, [], ◌∷◌, length, count_by, Bool, true, false, Option, Some, None, ℤ, refl, sym, ap, arith}
-use Rattle.std.specs.Option.{option_map}
+use Rattle.std.proofs.Common.{◌≡◌, ◌+◌, ◌≤◌, ◌-◌, ◌^◌, ◌<◌, ℕ, List, [], ◌∷◌, length, Bool, true, false, Option, Some, None, ℤ, sym, arith}
 use Rattle.tbl_model.specs.State.{Table}
-use Rattle.tbl_model.specs.Telemetry.{Question}
 use Rattle.tbl_model.specs.Validations.{judged_image, questions, marked, judged}
 use Rattle.tbl_outside.specs.declared.validator.Validator.{Ghosts as ValidatorGhosts}
 use Rattle.tbl_outside.specs.declared.validator.KitEntry.{KitEntry}
-use Rattle.validation.specs.Asked.{is_for, Stays, WasAsked, asks}
-use Rattle.validation.specs.Kits.{entry_at, owners}
+use Rattle.validation.specs.Asked.{WasAsked, asks}
+use Rattle.validation.specs.Kits.{owners}
 use Rattle.validation.proofs.Asking.{stands_still, few_left}
 use Rattle.validation.proofs.Ready.{all_keep, judged_keeps, asked_has_functions, mark_has_functions, mark_keeps_loads}
 use Rattle.desk.specs.Desk.{Rest, state_at, IsOrderly}
