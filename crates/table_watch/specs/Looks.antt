@@ -1,7 +1,8 @@
 -- Looks at the images of tables.
-use Rattle.std.specs.Prelude.{ℕ, ◌==◌, List, [], ◌∷◌, ◌++◌, Bool, if◌then◌else◌, Option, Some, None}
+use Rattle.std.specs.Prelude.{◌≡◌, ℕ, ◌==◌, List, [], ◌∷◌, ◌++◌, Bool, if◌then◌else◌, Option, Some, None, Result, IfOk, OnOk, OnErr}
 use Rattle.std.specs.List.{fold}
 use Rattle.std.specs.Str.{bytes_eq}
+use Rattle.tbl_kinds.specs.declared.bytes.Memory.{Memory}
 use Rattle.table_watch.specs.declared.watch.Look.{Look}
 use Rattle.table_watch.specs.declared.watch.Seen.{Seen}
 use Rattle.table_watch.specs.declared.watch.Seen.TheVariants.{First, Same, Changed}
@@ -26,3 +27,9 @@ looked looks place name word = looks ++ next_look looks place name word ∷ []
 abbrev pub seen_after : Option ℕ → ℕ → Seen
 seen_after None word = First
 seen_after (Some old) word = if old == word then Same word else Changed old word
+
+-- a look is noted, and answered by what it saw; if memory ran out, nothing changes
+pub record Notes (place : ℕ) (name : List ℕ) (word : ℕ) (old new : List Look) (result : Result Seen Memory) : Type 0 where
+  pub look : OnOk result (new ≡ looked old place name word)
+  pub seen : IfOk result (λ seen. seen ≡ seen_after (latest_word old name) word)
+  pub err : OnErr result (new ≡ old)

@@ -1,8 +1,8 @@
 //! The looks so far.
 
-ghost use Rattle.std.specs.Prelude.{◌≡◌, [], IfOk, OnErr, OnOk};
+ghost use Rattle.std.specs.Prelude.{◌≡◌, [], IfOk};
 ghost use Rattle.tbl_kinds.specs.Check.{check16};
-ghost use Rattle.table_watch.specs.Looks.{looked, latest_word, seen_after};
+ghost use Rattle.table_watch.specs.Looks.{Notes, seen_after};
 ghost use Rattle.table_watch.specs.Report.{report};
 
 use crate::report::write_report;
@@ -89,18 +89,14 @@ impl Watch {
     /// Looks at an image that was lent: makes its check word, which reads all of its bytes, and compares it with that of the latest
     /// look before at a table of the same full name. An Err is out of memory.
     pub fn look(&mut self, pin: &Pin) -> Result<Seen, Memory>
-        ensures look { OnOk result (self.new ≡ looked self.old pin.now.place pin.now.name (check16 pin.now.bytes)) }
-        ensures seen { IfOk result (λ seen. seen ≡ seen_after (latest_word self.old pin.now.name) (check16 pin.now.bytes)) }
-        ensures err { OnErr result (self.new ≡ self.old) }
+        ensures { Notes pin.now.place pin.now.name (check16 pin.now.bytes) self.old self.new result }
     {
         self.note(pin.place(), pin.name(), check16(pin.bytes()))
     }
 
     /// Notes a check word, and answers what was seen. An Err is out of memory.
     fn note(&mut self, place: u64, name: &Name40, word: u16) -> Result<Seen, Memory>
-        ensures look { OnOk result (self.new ≡ looked self.old place name.now word) }
-        ensures seen { IfOk result (λ seen. seen ≡ seen_after (latest_word self.old name.now) word) }
-        ensures err { OnErr result (self.new ≡ self.old) }
+        ensures { Notes place name.now word self.old self.new result }
     {
         self.looks.reserve(1)?;
         let Ok(before) = self.words.insert(name.copy(), word) else {
