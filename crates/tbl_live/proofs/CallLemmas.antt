@@ -5,21 +5,23 @@ use Rattle.atomic_table.specs.Seated.{TableId}
 use Rattle.atomic_table.specs.Table.{Me}
 use Rattle.turn_lock.specs.Turns.{Idle, Holds, Knows, Leads}
 use Rattle.turn_lock.specs.declared.rule.View.{View}
+use Rattle.tbl_kinds.specs.Buffers.{Buffer}
 use Rattle.tbl_kinds.specs.Records.{actor_number}
 use Rattle.tbl_kinds.specs.declared.request.Actor.{Actor}
 use Rattle.tbl_kinds.specs.declared.request.Request.{Request}
 use Rattle.tbl_outside.specs.declared.bank.Bank.{Ghosts}
 use Rattle.tbl_core.specs.declared.service.StepFault.{StepFault}
-use Rattle.tbl_live.specs.Answers.{Answers}
+use Rattle.tbl_live.specs.Answers.{Answers, KeepsRoom}
 use Rattle.tbl_live.specs.Bounds.{Bound}
 use Rattle.tbl_live.specs.Moves.{Moves}
 use Rattle.tbl_registry.specs.declared.pin.Pin.{Pin}
 use Rattle.tbl_core.specs.Service.{IsOfPin}
-use Rattle.tbl_core.specs.Pins.{IsSliceOf}
-use Rattle.tbl_live.specs.Lent.{IsLentIn, IsTaken, LentCall, CallGives, IsGivenIn}
+use Rattle.tbl_live.specs.Cores.{IsTaken}
+use Rattle.tbl_live.specs.Lent.{IsLentIn, IsTakenFor, CallGives, IsGivenIn}
 use Rattle.tbl_live.specs.Saying.{Says, CallsNothing}
 use Rattle.tbl_live.specs.Seats.{SeatView, IsSeat, seat_of}
 use Rattle.tbl_live.specs.ServedView.{ServedView}
+use Rattle.tbl_live.specs.declared.cores.Taken.{Taken}
 use Rattle.tbl_live.specs.declared.receipts.CallFault.{CallFault}
 use Rattle.tbl_live.specs.declared.receipts.Receipt.{Receipt}
 use Rattle.tbl_live.proofs.FollowingLemmas.{follows, longer}
@@ -42,9 +44,8 @@ module _ {B C : Type 0} (g : Ghosts B) (verdict : C → List ℕ → ℤ) (bound
   still_lent pin is = (follows g verdict (actor_number actor) inv.last y led).pins pin (subst (λ (seen : List (ServedView B C)). IsLentIn seen pin) seen_is is)
 
   -- and what was taken of it are the bytes that the request asks for
-  pub still_taken : {A : Type 0} (request : Request) (found : Option A) (pin : A → Pin) (slice : A → List ℕ) → IfSome found (λ (a : A). IsLentIn me.0.seen (pin a) × IsSliceOf (pin a) request (slice a))
-      → IfSome found (λ (a : A). IsTaken (pin a) (slice a) request y.core)
-  still_taken {A} request found pin slice is = on_some {P = λ (a : A). IsLentIn me.0.seen (pin a) × IsSliceOf (pin a) request (slice a)} {Q = λ (a : A). IsTaken (pin a) (slice a) request y.core} (λ a both. (still_lent (pin a) both.0, both.1)) found is
+  pub still_taken : (of : TableId) (request : Request) (found : Option Taken) → IfSome found (IsTakenFor (seat_of of actor me.0.seen saw met) request) → IfSome found (IsTaken request y.core)
+  still_taken of request found is = on_some {P = IsTakenFor (seat_of of actor me.0.seen saw met) request} {Q = IsTaken request y.core} (λ taken both. (still_lent taken.pin.now both.0, both.1)) found is
 
   -- the turn that was taken is the actor's
   pub taken_from : taken.0.from ≡ actor_number actor
@@ -66,19 +67,19 @@ module _ {B C : Type 0} (g : Ghosts B) (verdict : C → List ℕ → ℤ) (bound
     }
 
     -- what was taken of a lent image is what the call gives
-    given : (call : LentCall) → CallGives call y.core z.core → IsGivenIn g verdict (actor_number actor) call me.0.seen back.0.seen
-    given call gives = rw (seen_is, back_seen) (record { found = y; beside = led; gives = gives })
+    given : (result : Result Receipt CallFault) (taken : Taken) → CallGives result y.core z.core taken → IsGivenIn g verdict (actor_number actor) result me.0.seen back.0.seen taken
+    given result taken gives = rw (seen_is, back_seen) (record { found = y; beside = led; gives = gives })
 
-    pub is_given : {A : Type 0} (ahead : Option A) (call : A → LentCall) → IfSome ahead (λ (a : A). CallGives (call a) y.core z.core) → IfSome ahead (λ (a : A). IsGivenIn g verdict (actor_number actor) (call a) me.0.seen back.0.seen)
-    is_given {A} ahead call is = on_some {P = λ (a : A). CallGives (call a) y.core z.core} {Q = λ (a : A). IsGivenIn g verdict (actor_number actor) (call a) me.0.seen back.0.seen} (λ a gives. given (call a) gives) ahead is
+    pub is_given : (ahead : Option Taken) (result : Result Receipt CallFault) → IfSome ahead (CallGives result y.core z.core) → IfSome ahead (IsGivenIn g verdict (actor_number actor) result me.0.seen back.0.seen)
+    is_given ahead result is = on_some {P = CallGives result y.core z.core} {Q = IsGivenIn g verdict (actor_number actor) result me.0.seen back.0.seen} (λ taken gives. given result taken gives) ahead is
 
-    pub called : (of of' : TableId) (saw' : ℕ) (met' : Option StepFault) (request : Request) (bytes after : List ℕ) (result : Result Receipt CallFault) → of' ≡ of → saw' ≡ length z.core.entries → met' ≡ z.fault
-        → Answers bound y z actor request (bytes, after) result → Says bound (seat_of of actor me.0.seen saw met) (seat_of of' actor back.0.seen saw' met') request bytes after result
-    called of of' saw' met' request bytes after result of_is saw_is met_is answers =
-        let said = says g verdict bound of actor saw met inv.last y z inv.past inv.tells (follows g verdict (actor_number actor) inv.last y led) moves request bytes after result answers in
+    pub called : (of of' : TableId) (saw' : ℕ) (met' : Option StepFault) (request : Request) (out after : Buffer) (result : Result Receipt CallFault) → of' ≡ of → saw' ≡ length z.core.entries → met' ≡ z.fault
+        → Answers bound y z actor request (out.list, after.list) result → KeepsRoom out after → Says bound (seat_of of actor me.0.seen saw met) (seat_of of' actor back.0.seen saw' met') request out after result
+    called of of' saw' met' request out after result of_is saw_is met_is answers room =
+        let said = says g verdict bound of actor saw met inv.last y z inv.past inv.tells (follows g verdict (actor_number actor) inv.last y led) moves request out after result answers room in
         let old_is : seat_of of actor me.0.seen saw met ≡ seat_of of actor (inv.last ∷ []) saw met = ap (λ (s : List (ServedView B C)). seat_of of actor s saw met) seen_is in
         let new_is : seat_of of' actor back.0.seen saw' met' ≡ seat_of of actor (z ∷ []) (length z.core.entries) z.fault = λ i. seat_of (of_is i) actor (back_seen i) (saw_is i) (met_is i) in
-        subst (λ (p : SeatView B C × SeatView B C). Says bound p.0 p.1 request bytes after result) (λ i. (sym old_is i, sym new_is i)) said
+        subst (λ (p : SeatView B C × SeatView B C). Says bound p.0 p.1 request out after result) (λ i. (sym old_is i, sym new_is i)) said
 
     pub looked : (of of' : TableId) (saw' : ℕ) (met' : Option StepFault) → of' ≡ of → saw' ≡ length z.core.entries → met' ≡ z.fault → z ≡ y → CallsNothing (seat_of of actor me.0.seen saw met) (seat_of of' actor back.0.seen saw' met')
     looked of of' saw' met' of_is saw_is met_is same =

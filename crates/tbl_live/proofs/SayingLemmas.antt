@@ -3,13 +3,14 @@ use Rattle.std.proofs.Common.{◌≡◌, ℕ, ◌<◌, ◌≤◌, List, [], ◌�
 use Rattle.std.specs.Prelude.{Result}
 use Rattle.std.specs.List.{AllByRecursion}
 use Rattle.atomic_table.specs.Seated.{TableId}
+use Rattle.tbl_kinds.specs.Buffers.{Buffer}
 use Rattle.tbl_kinds.specs.Records.{actor_number}
 use Rattle.tbl_kinds.specs.declared.entry.Entry.{Entry}
 use Rattle.tbl_kinds.specs.declared.request.Actor.{Actor}
 use Rattle.tbl_kinds.specs.declared.request.Request.{Request}
 use Rattle.tbl_outside.specs.declared.bank.Bank.{Ghosts}
 use Rattle.tbl_core.specs.declared.service.StepFault.{StepFault}
-use Rattle.tbl_live.specs.Answers.{MayStep, Adds, Refuses, Answers}
+use Rattle.tbl_live.specs.Answers.{MayStep, Adds, Refuses, Answers, KeepsRoom}
 use Rattle.tbl_live.specs.Bounds.{Bound}
 use Rattle.tbl_live.specs.Calls.{Call, call_of, own}
 use Rattle.tbl_live.specs.Moves.{Moves}
@@ -58,8 +59,8 @@ module _ {B C : Type 0} (g : Ghosts B) (verdict : C → List ℕ → ℤ) (bound
   pub calls_nothing : z ≡ y → CallsNothing old new
   calls_nothing same = record { same = still_same; calls = calls_stay same; goes_on = goes_on }
 
-  module _ (request : Request) (bytes after : List ℕ) where
-    adds : (e : Entry) → MayStep bound.limit y.fault y.core → Adds y z actor request e bytes after → AddsCall bound.limit old new request (call_of (length y.core.entries) e) bytes after
+  module _ (request : Request) (out after : Buffer) where
+    adds : (e : Entry) → MayStep bound.limit y.fault y.core → Adds y z actor request e out.list after.list → AddsCall bound.limit old new request (call_of (length y.core.entries) e) out.list after.list
     adds e may one = record {
       added = ap (λ (n : ℕ). own n (actor_number actor) z.core.entries) bases ∙ ap (own x.base (actor_number actor)) one.added
           ∙ own_mine x.base (actor_number actor) y.core.entries e past_y (ap actor_number one.actor_is) ∙ ap (λ (l : List Call). l ++ call_of (length y.core.entries) e ∷ []) follows.calls;
@@ -70,7 +71,7 @@ module _ {B C : Type 0} (g : Ghosts B) (verdict : C → List ℕ → ℤ) (bound
       appended = one.appended;
     }
 
-    stays : Refuses y z bytes after → Stays old new bytes after
+    stays : Refuses y z out.list after.list → Stays old new out.list after.list
     stays no_one = record {
       calls = calls_stay no_one.same;
       none = no_one.none;
@@ -86,12 +87,12 @@ module _ {B C : Type 0} (g : Ghosts B) (verdict : C → List ℕ → ℤ) (bound
     none_met : y.fault ≡ None → met ≡ None
     none_met went = none_of met (λ fault is. let there = follows.fault fault (sym last.met_is ∙ is) in absurd (cc (went, there)))
 
-    told : (result : Result Receipt CallFault) → Answers bound y z actor request (bytes, after) result → Told bound old new request bytes after result
+    told : (result : Result Receipt CallFault) → Answers bound y z actor request (out.list, after.list) result → Told bound old new request out.list after.list result
     told (Ok receipt) (may, (e, one, no_fault, is)) = (call_of (length y.core.entries) e, adds e may one, is ∙ (λ i. record { place = length y.core.entries; actor = one.actor_is i; status = e.reply.status; detail = e.reply.detail }), no_fault)
     told (Err (Ended fault)) a = (stays a.1, still_fault a.1.same ∙ a.0)
     told (Err (Full count)) a = (stays a.1, still_fault a.1.same ∙ a.0.0, subst (λ (v : ServedView B C). bound.full (length v.core.entries) v.core.state.tables count) (sym a.1.same) a.0.1)
     told (Err (Step fault)) (may, (e, one), is) = ((call_of (length y.core.entries) e, adds e may one), none_met may.went, is)
     told (Err Memory) a = (stays a.1, still_fault a.1.same ∙ a.0.went, let same = still_count a.1.same in let room = a.0.room in omega (arith, same, room))
 
-    pub says : (result : Result Receipt CallFault) → Answers bound y z actor request (bytes, after) result → Says bound old new request bytes after result
-    says result a = record { same = still_same; told = told result a; goes_on = goes_on }
+    pub says : (result : Result Receipt CallFault) → Answers bound y z actor request (out.list, after.list) result → KeepsRoom out after → Says bound old new request out after result
+    says result a room = record { same = still_same; told = told result a; goes_on = goes_on; room = room }

@@ -15,26 +15,25 @@ use Rattle.tbl_kinds.specs.declared.request.Actor.{Actor}
 use Rattle.tbl_kinds.specs.declared.request.Actor.TheVariants.{Ground, App}
 use Rattle.tbl_kinds.specs.declared.request.Request.{Request}
 use Rattle.tbl_session.specs.Actors.{actor_count, actor_of}
-use Rattle.tbl_live.specs.Seats.{SeatView, IsAppOf, IsOf, AreOf, IsSeat, AreSeats, AreFresh, AreDealt, IsOfActor, IsFresh, IsSame, calls_in, seat_of}
+use Rattle.tbl_live.specs.Seats.{SeatView, IsAppOf, IsOf, IsLeft, AreOf, IsSeat, AreSeats, AreFresh, AreDealt, IsOfActor, IsFresh, IsSame, calls_in, seat_of}
+use Rattle.tbl_live.specs.Places.{Place, MayJoin, IsJoined}
 use Rattle.tbl_live.specs.ServedView.{ServedView}
 use Rattle.tbl_live.proofs.OwnLemmas.{own_none}
 
-pub number_of : (n : ℕ) → actor_number (actor_of n) ≡ n
+number_of : (n : ℕ) → actor_number (actor_of n) ≡ n
 number_of zero = refl
 number_of (suc n) = refl
 
-pub with_seen : {T : Type 0} (m : Me (Option T) (View T)) (from : ℕ) (seen : List T) → Idle m from seen → Idle m from m.0.seen
+with_seen : {T : Type 0} (m : Me (Option T) (View T)) (from : ℕ) (seen : List T) → Idle m from seen → Idle m from m.0.seen
 with_seen {T} m from seen is = is ∙ ap {B = Me (Option T) (View T)} (λ (s : List T). (seat_view from s, [])) (sym (ap (λ (x : Me (Option T) (View T)). x.0.seen) is))
+
+as_it_is : {T : Type 0} (m : Me (Option T) (View T)) (from : ℕ) (seen : List T) → Idle m from seen → Idle m m.0.from m.0.seen
+as_it_is {T} m from seen is = subst (λ (x : Me (Option T) (View T)). Idle x x.0.from x.0.seen) (sym is) refl
 
 -- ---- gathered
 
--- a seat that is left, with its actor
-pub left_of : {B C : Type 0} (of : TableId) (m : Me (Option (ServedView B C)) (View (ServedView B C))) (at : ℕ) (seat : SeatView B C) → IsOfActor of at seat
-    → (last : ServedView B C) × Idle m (actor_number seat.actor) (last ∷ []) × IsOf (actor_number seat.actor) last seat → (last : ServedView B C) × Idle m at (last ∷ []) × IsOf at last seat
-left_of {B} {C} of m at seat is = subst (λ (n : ℕ). (last : ServedView B C) × Idle m n (last ∷ []) × IsOf n last seat) (ap actor_number is.actor_is ∙ number_of at)
-
 module _ {B C : Type 0} where
-  pub at_place : (seats front more : List (SeatView B C)) (seat : SeatView B C) → seats ≡ front ++ seat ∷ more → get_elem? seats (length front) ≡ some seat
+  at_place : (seats front more : List (SeatView B C)) (seat : SeatView B C) → seats ≡ front ++ seat ∷ more → get_elem? seats (length front) ≡ some seat
   at_place seats front more seat is = subst (λ (l : List (SeatView B C)). get_elem? l (length front) ≡ some seat) (sym is) (here front)
     where
       here : (front : List (SeatView B C)) → get_elem? (front ++ seat ∷ more) (length front) ≡ some seat
@@ -42,7 +41,7 @@ module _ {B C : Type 0} where
       here (x ∷ front) = here front
 
   -- the seat before these
-  pub lower_of : (i : ℕ) (last : ServedView B C) (seen : List (ServedView B C)) (seats front more : List (SeatView B C)) (seat : SeatView B C) → seats ≡ front ++ seat ∷ more → i ≡ length front → IsOf i last seat → AreOf (i + 1) seen seats
+  lower_of : (i : ℕ) (last : ServedView B C) (seen : List (ServedView B C)) (seats front more : List (SeatView B C)) (seat : SeatView B C) → seats ≡ front ++ seat ∷ more → i ≡ length front → IsOf i last seat → AreOf (i + 1) seen seats
       → AreOf i (last ∷ seen) seats
   lower_of i last seen seats front more seat is at one rest zero x s e e' =
       let p : i + zero ≡ length front = omega (arith, at) in
@@ -55,106 +54,68 @@ module _ {B C : Type 0} where
       subst (λ (n : ℕ). IsOf n x s) p (rest j x s e (subst (λ (n : ℕ). get_elem? seats n ≡ some s) (sym p) e'))
 
   -- none is after the last
-  pub none_of : (i : ℕ) (seats : List (SeatView B C)) → AreOf i [] seats
+  none_of : (i : ℕ) (seats : List (SeatView B C)) → AreOf i [] seats
   none_of i seats j x s e e' = absurd (some-ne-none x (sym e))
 
--- one more seat is gathered: the one before those of the place
-pub record Lower {B C : Type 0} (of : TableId) (lower : Me (Option (ServedView B C)) (View (ServedView B C))) (front more : List (SeatView B C)) (seat : SeatView B C) (seats : List (SeatView B C)) : Type 0 where
-  pub split : seats ≡ front ++ seat ∷ more
-  pub own : seat.of ≡ of
-  pub last : ServedView B C
-  pub idle : Idle lower (length front) (last ∷ [])
-  pub one : IsOf (length front) last seat
-
-module _ {B C : Type 0} (of : TableId) (lower : Me (Option (ServedView B C)) (View (ServedView B C))) (front more : List (SeatView B C)) (seat : SeatView B C) (seats : List (SeatView B C)) (are : AreSeats of seats) where
-  pub lower_is : seats ≡ front ++ seat ∷ more → (last : ServedView B C) × Idle lower (actor_number seat.actor) (last ∷ []) × IsOf (actor_number seat.actor) last seat → Lower of lower front more seat seats
-  lower_is whole left =
-      let one = are.each (length front) seat (at_place seats front more seat whole) in
-      let l = left_of of lower (length front) seat one left in
-      record { split = whole; own = one.of_it; last = l.0; idle = l.1; one = l.2 }
-
-module _ {B C : Type 0} (of : TableId) (lower place new : Me (Option (ServedView B C)) (View (ServedView B C))) (front more : List (SeatView B C)) (seat : SeatView B C) (seats : List (SeatView B C)) (low : Lower of lower front more seat seats)
-    (idle : Idle place (length front + 1) place.0.seen) where
-  pub they_meet : place.0.from ≡ lower.0.from + length lower.0.seen
-  they_meet =
-      let a : place.0.from ≡ length front + 1 = ap (λ (m : Me (Option (ServedView B C)) (View (ServedView B C))). m.0.from) idle in
-      let b : lower.0.from ≡ length front = ap (λ (m : Me (Option (ServedView B C)) (View (ServedView B C))). m.0.from) low.idle in
-      let d : length lower.0.seen ≡ 1 = ap (λ (m : Me (Option (ServedView B C)) (View (ServedView B C))). length m.0.seen) low.idle in
-      omega (arith, a, b, d)
-
-  module _ (joined : Idle new lower.0.from (lower.0.seen ++ place.0.seen)) where
-    new_idle : Idle new (length front) (low.last ∷ place.0.seen)
-    new_idle = joined ∙ ap {B = Me (Option (ServedView B C)) (View (ServedView B C))} (λ (m : Me (Option (ServedView B C)) (View (ServedView B C))). (seat_view m.0.from (m.0.seen ++ place.0.seen), [])) low.idle
-
-    pub new_place : Idle new (length front) new.0.seen
-    new_place = with_seen new (length front) (low.last ∷ place.0.seen) new_idle
-
-    new_seen : new.0.seen ≡ low.last ∷ place.0.seen
-    new_seen = ap (λ (m : Me (Option (ServedView B C)) (View (ServedView B C))). m.0.seen) new_idle
-
-    pub new_many : length new.0.seen ≡ length place.0.seen + 1
-    new_many = omega (arith, ap length new_seen)
-
-    pub new_each : AreOf (length front + 1) place.0.seen seats → AreOf (length front) new.0.seen seats
-    new_each each = subst (λ (xs : List (ServedView B C)). AreOf (length front) xs seats) (sym new_seen) (lower_of (length front) low.last place.0.seen seats front more seat low.split refl low.one each)
-
 -- the seats after the first so many are one, of whose actors each saw its last value
-pub record Gathered {B C : Type 0} (place : Me (Option (ServedView B C)) (View (ServedView B C))) (front seats : List (SeatView B C)) : Type 0 where
-  pub idle : Idle place (length front) place.0.seen
-  pub many : length place.0.seen + length front ≡ actor_count
+pub record Gathered {B C : Type 0} (of : TableId) (place : Place (ServedView B C)) (front seats : List (SeatView B C)) : Type 0 where
+  pub own : place.table_id ≡ of
+  pub idle : Idle place.me (length front) place.me.0.seen
+  pub many : length place.me.0.seen + length front ≡ actor_count
   pub rest : (more : List (SeatView B C)) × (seats ≡ front ++ more)
-  pub each : AreOf (length front) place.0.seen seats
+  pub each : AreOf (length front) place.me.0.seen seats
 
-module _ {B C : Type 0} (of : TableId) (seats : List (SeatView B C)) (are : AreSeats of seats) (seat : SeatView B C) (front : List (SeatView B C)) where
-  -- what is left of a seat: its actor's place, with what it saw last
-  abbrev Left : Me (Option (ServedView B C)) (View (ServedView B C)) → Type 0
-  Left m = (last : ServedView B C) × Idle m (actor_number seat.actor) (last ∷ []) × IsOf (actor_number seat.actor) last seat
+module _ {B C : Type 0} (of : TableId) (seats : List (SeatView B C)) (are : AreSeats of seats) (seat : SeatView B C) (front : List (SeatView B C)) (lower : Place (ServedView B C)) (left : IsLeft seat.of (actor_number seat.actor) seat lower) where
+  -- what is left of a seat after those in front
+  left_at : (more : List (SeatView B C)) → seats ≡ front ++ seat ∷ more → IsLeft of (length front) seat lower
+  left_at more whole =
+      let one = are.each (length front) seat (at_place seats front more seat whole) in
+      subst (λ (p : TableId × ℕ). IsLeft p.0 p.1 seat lower) (λ i. (one.of_it i, (ap actor_number one.actor_is ∙ number_of (length front)) i)) left
 
   -- the last seat alone
-  pub gathered_last : (m : Me (Option (ServedView B C)) (View (ServedView B C))) → seats ≡ front ++ seat ∷ [] → Left m → Gathered m front seats
-  gathered_last m whole left =
-      let low = lower_is of m front [] seat seats are whole left in
-      let seen : m.0.seen ≡ low.last ∷ [] = ap (λ (x : Me (Option (ServedView B C)) (View (ServedView B C))). x.0.seen) low.idle in
+  pub gathered_last : seats ≡ front ++ seat ∷ [] → Gathered of lower front seats
+  gathered_last whole =
+      let low = left_at [] whole in
+      let seen : lower.me.0.seen ≡ low.last ∷ [] = ap (λ (x : Me (Option (ServedView B C)) (View (ServedView B C))). x.0.seen) low.idle in
       let count = are.count in
       record {
-        idle = with_seen m (length front) (low.last ∷ []) low.idle;
+        own = low.own;
+        idle = with_seen lower.me (length front) (low.last ∷ []) low.idle;
         many = omega (arith, ap length seen, ap length whole, length-append front (seat ∷ []), count);
         rest = (seat ∷ [], whole);
         each = subst (λ (xs : List (ServedView B C)). AreOf (length front) xs seats) (sym seen) (lower_of (length front) low.last [] seats front [] seat whole refl low.one (none_of (length front + 1) seats));
       }
 
-  pub own_last : (m : Me (Option (ServedView B C)) (View (ServedView B C))) → seats ≡ front ++ seat ∷ [] → Left m → seat.of ≡ of
-  own_last m whole left = (lower_is of m front [] seat seats are whole left).own
-
   -- one more, the last of those before
-  module _ (lower place : Me (Option (ServedView B C)) (View (ServedView B C))) (all : List (SeatView B C)) (was : Gathered place all seats) (is : all ≡ front ++ seat ∷ []) (left : Left lower) where
+  module _ (place : Place (ServedView B C)) (all : List (SeatView B C)) (was : Gathered of place all seats) (is : all ≡ front ++ seat ∷ []) where
     whole : seats ≡ front ++ seat ∷ was.rest.0
     whole = was.rest.1 ∙ ap (λ (l : List (SeatView B C)). l ++ was.rest.0) is ∙ append_assoc front (seat ∷ []) was.rest.0
 
-    low : Lower of lower front was.rest.0 seat seats
-    low = lower_is of lower front was.rest.0 seat seats are whole left
+    low : IsLeft of (length front) seat lower
+    low = left_at was.rest.0 whole
 
     one_more : length all ≡ length front + 1
     one_more = ap length is ∙ length-append front (seat ∷ [])
 
-    idle_after : Idle place (length front + 1) place.0.seen
-    idle_after = subst (λ (n : ℕ). Idle place n place.0.seen) one_more was.idle
+    pub may_join : MayJoin of lower place
+    may_join =
+        let a : place.me.0.from ≡ length all = ap (λ (m : Me (Option (ServedView B C)) (View (ServedView B C))). m.0.from) was.idle in
+        let b : lower.me.0.from ≡ length front = ap (λ (m : Me (Option (ServedView B C)) (View (ServedView B C))). m.0.from) low.idle in
+        let d : length lower.me.0.seen ≡ 1 = ap (λ (m : Me (Option (ServedView B C)) (View (ServedView B C))). length m.0.seen) low.idle in
+        record { own = (low.own, was.own); idle = (as_it_is lower.me (length front) (low.last ∷ []) low.idle, as_it_is place.me (length all) place.me.0.seen was.idle); meet = omega (arith, a, b, d, one_more) }
 
-    pub own_left : seat.of ≡ of
-    own_left = low.own
-
-    pub meets : place.0.from ≡ lower.0.from + length lower.0.seen
-    meets = they_meet of lower place place front was.rest.0 seat seats low idle_after
-
-    pub gathered_more : (new : Me (Option (ServedView B C)) (View (ServedView B C))) → Idle new lower.0.from (lower.0.seen ++ place.0.seen) → Gathered new front seats
+    pub gathered_more : (new : Place (ServedView B C)) → IsJoined lower place new → Gathered of new front seats
     gathered_more new joined =
-        let more = new_many of lower place new front was.rest.0 seat seats low idle_after joined in
+        let idle : Idle new.me (length front) (low.last ∷ place.me.0.seen) = joined.idle ∙ ap {B = Me (Option (ServedView B C)) (View (ServedView B C))} (λ (m : Me (Option (ServedView B C)) (View (ServedView B C))). (seat_view m.0.from (m.0.seen ++ place.me.0.seen), [])) low.idle in
+        let seen : new.me.0.seen ≡ low.last ∷ place.me.0.seen = ap (λ (m : Me (Option (ServedView B C)) (View (ServedView B C))). m.0.seen) idle in
         let many = was.many in
         record {
-          idle = new_place of lower place new front was.rest.0 seat seats low idle_after joined;
-          many = omega (arith, more, many, one_more);
+          own = joined.own ∙ low.own;
+          idle = with_seen new.me (length front) (low.last ∷ place.me.0.seen) idle;
+          many = omega (arith, ap length seen, many, one_more);
           rest = (seat ∷ was.rest.0, whole);
-          each = new_each of lower place new front was.rest.0 seat seats low idle_after joined (subst (λ (n : ℕ). AreOf n place.0.seen seats) one_more was.each);
+          each = subst (λ (xs : List (ServedView B C)). AreOf (length front) xs seats) (sym seen)
+              (lower_of (length front) low.last place.me.0.seen seats front was.rest.0 seat whole refl low.one (subst (λ (n : ℕ). AreOf n place.me.0.seen seats) one_more was.each));
         }
 
 -- the ground's seat, once all others are gathered

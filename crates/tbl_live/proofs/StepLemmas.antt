@@ -2,6 +2,7 @@
 use Rattle.std.proofs.Common.{◌≡◌, ℕ, ◌+◌, ◌<◌, ◌≤◌, List, [], ◌∷◌, ◌++◌, length, Bool, true, false, Option, Some, None, Result, Ok, Err, refl, sym, ap, subst, ◌∙◌, inl, inr, arith, ℤ}
 use Rattle.std.specs.Prelude.{OnOk, slice_index_or}
 use Rattle.std.proofs.lemmas.List.{get_or_at, length-append}
+use Rattle.tbl_kinds.specs.Buffers.{Buffer}
 use Rattle.tbl_kinds.specs.Records.{actor_number}
 use Rattle.tbl_kinds.specs.Requests.{Fits}
 use Rattle.tbl_kinds.specs.declared.entry.Entry.{Entry}
@@ -19,13 +20,15 @@ use Rattle.tbl_core.specs.declared.service.StepFault.TheVariants.{Memory as NoMe
 use Rattle.tbl_history.specs.Serving.{Continues}
 use Rattle.tbl_history.proofs.ServingLemmas.{continues_same}
 use Rattle.tbl_history.proofs.TroubleLemmas.{ends_in_fault, ends_in_stop}
-use Rattle.tbl_live.specs.Answers.{receipt_of, MayStep, Adds, IsRefusal, TakesLast, IsOutcome, kept_of, Answers}
+use Rattle.tbl_live.specs.Answers.{receipt_of, MayStep, Adds, IsRefusal, TakesLast, IsOutcome, GivesOutcome, kept_of, Answers, Answered}
 use Rattle.tbl_live.specs.Bounds.{Bound}
+use Rattle.tbl_live.specs.Cores.{Asked, PlaysOne}
 use Rattle.tbl_live.specs.Moves.{Moves}
 use Rattle.tbl_live.specs.ServedView.{ServedView, TellsFault, HasEnded, IsServed}
 use Rattle.tbl_live.specs.declared.receipts.CallFault.{CallFault}
 use Rattle.tbl_live.specs.declared.receipts.CallFault.TheVariants.{Ended, Full, Step, Memory}
 use Rattle.tbl_live.specs.declared.receipts.Receipt.{Receipt}
+use Rattle.tbl_live.proofs.GivingLemmas.{refused_given, played_given}
 
 -- ---- the last entry
 
@@ -88,11 +91,19 @@ module _ {B C : Type 0} (g : Ghosts B) (verdict : C → List ℕ → ℤ) (bound
     pins = λ pin is. is;
   }
 
-  pub refused : (actor : Actor) (request : Request) (bytes : List ℕ) (cause : CallFault) → IsRefusal bound old.fault old.core cause → Answers bound old old actor request (bytes, bytes) (Err cause)
+  refused : (actor : Actor) (request : Request) (bytes : List ℕ) (cause : CallFault) → IsRefusal bound old.fault old.core cause → Answers bound old old actor request (bytes, bytes) (Err cause)
   refused actor request bytes (Ended fault) is = (is, record { same = refl; none = refl })
   refused actor request bytes (Full count) is = (is, record { same = refl; none = refl })
   refused actor request bytes (Step fault) is = absurd is
   refused actor request bytes Memory is = absurd is
+
+  pub refused_answer : (call : Asked) (out : Buffer) (cause : CallFault) → IsRefusal bound old.fault old.core cause → Answered g verdict bound call (old, out) (old, out) (Err cause, None)
+  refused_answer call out cause is = record {
+    lent = refused_given call.taken bound old.fault old.core old.core old.core cause is;
+    moves = moves_itself (actor_number call.actor);
+    answers = refused call.actor call.request out.list cause is;
+    room = record { later = tt; keeps = omega arith };
+  }
 
   module _ (may : MayStep bound.limit old.fault old.core) (base : new.base ≡ old.base) where
     -- ---- one entry more
@@ -142,7 +153,7 @@ module _ {B C : Type 0} (g : Ghosts B) (verdict : C → List ℕ → ℤ) (bound
         let boot = ends_in_stop g old.core new.core actor request one in
         tells_end BootStopped one.entry one.added (record { ended = one.ended ∙ ended_by BootStopped one.entry.given.note one.entry.given.note.ended refl one.ends; boot = boot; later = later one.entry one.added }) kept
 
-    pub moves_on : (actor : Actor) (request : Request) (done : Result Unit StepFault) → Fits actor request → new.fault ≡ kept_of done → OnPlayed done (AddsOne g old.core new.core actor request done) → OnPlayed done (Continues g verdict old.core new.core)
+    moves_on : (actor : Actor) (request : Request) (done : Result Unit StepFault) → Fits actor request → new.fault ≡ kept_of done → OnPlayed done (AddsOne g old.core new.core actor request done) → OnPlayed done (Continues g verdict old.core new.core)
         → OnPlayed done (PinsOnward old.core new.core) → (done ≡ Err NoMemory → new.core ≡ old.core) → Moves g verdict old (actor_number actor) new
     moves_on actor request (Ok x) fits kept one continues onward err = moves_with actor request (Ok x) fits continues one onward
     moves_on actor request (Err NoMemory) fits kept one continues onward err = subst (Moves g verdict old (actor_number actor)) (sym (same_view old new (err refl) (kept ∙ sym may.went) base)) (moves_itself (actor_number actor))
@@ -160,7 +171,7 @@ module _ {B C : Type 0} (g : Ghosts B) (verdict : C → List ℕ → ℤ) (bound
         appended = (takes old.core.entries one.entry one.added).1;
       }
 
-      pub answers_on : (done : Result Unit StepFault) (result : Result Receipt CallFault) → new.fault ≡ kept_of done → OnPlayed done (AddsOne g old.core new.core actor request done) → (done ≡ Err NoMemory → new.core ≡ old.core)
+      answers_on : (done : Result Unit StepFault) (result : Result Receipt CallFault) → new.fault ≡ kept_of done → OnPlayed done (AddsOne g old.core new.core actor request done) → (done ≡ Err NoMemory → new.core ≡ old.core)
           → IsOutcome new.core.entries done bytes after result → Answers bound old new actor request (bytes, after) result
       answers_on (Ok x) result kept one err o =
           subst (Answers bound old new actor request (bytes, after)) (sym o.1) (may, (one.entry, adds (Ok x) o.0 one o.2, kept, (o.2 old.core.entries one.entry one.added).0))
@@ -168,3 +179,12 @@ module _ {B C : Type 0} (g : Ghosts B) (verdict : C → List ℕ → ℤ) (bound
           subst (Answers bound old new actor request (bytes, after)) (sym o.0) (may, record { same = same_view old new (err refl) (kept ∙ sym may.went) base; none = o.1 })
       answers_on (Err BootFault) result kept one err o = subst (Answers bound old new actor request (bytes, after)) (sym o.1) (may, (one.entry, adds (Err BootFault) o.0 one o.2), kept)
       answers_on (Err BootStopped) result kept one err o = subst (Answers bound old new actor request (bytes, after)) (sym o.1) (may, (one.entry, adds (Err BootStopped) o.0 one o.2), kept)
+
+    pub played_answer : (call : Asked) (done : Result Unit StepFault) (out after : Buffer) (answer : Result Receipt CallFault × Option Buffer) → Fits call.actor call.request → new.fault ≡ kept_of done → PlaysOne g verdict call old.core new.core done
+        → GivesOutcome new.core.entries done out after answer → Answered g verdict bound call (old, out) (new, after) answer
+    played_answer call done out after answer fits kept plays gives = record {
+      lent = played_given call.taken old.core new.core out.list _ done answer.0 gives.outcome plays.lent;
+      moves = moves_on call.actor call.request done fits kept plays.adds plays.continues plays.pins plays.err;
+      answers = answers_on call.actor call.request out.list _ done answer.0 kept plays.adds plays.err gives.outcome;
+      room = gives.room;
+    }

@@ -1,10 +1,13 @@
 pub mod Calls
 pub mod ServedView
+pub mod Cores
 pub mod Moves
 pub mod Answers
+pub mod Places
 pub mod Seats
 pub mod Lasting
 pub mod Lent
 pub mod Saying
+pub mod Service
 pub mod Boards
 pub mod Bounds

@@ -1,18 +1,31 @@
 -- What a call gives its caller, by the caller's seat before it and after it.
 use Rattle.std.specs.Prelude.{◌≡◌, ℕ, ◌+◌, ◌<◌, ◌≤◌, List, [], ◌∷◌, ◌++◌, Some, None, Result, Ok, Err}
 use Rattle.std.specs.List.{AllByRecursion}
+use Rattle.tbl_kinds.specs.Buffers.{Buffer}
+use Rattle.tbl_kinds.specs.Requests.{Fits}
 use Rattle.tbl_kinds.specs.declared.request.Actor.{Actor}
 use Rattle.tbl_kinds.specs.declared.request.Request.{Request}
+use Rattle.request_effects.specs.Effects.{reply_limit}
 use Rattle.tbl_core.specs.declared.service.StepFault.{StepFault}
+use Rattle.tbl_live.specs.Answers.{KeepsRoom}
 use Rattle.tbl_live.specs.Bounds.{Bound}
 use Rattle.tbl_live.specs.Calls.{Call}
 use Rattle.tbl_registry.specs.declared.pin.Pin.{Pin}
 use Rattle.tbl_live.specs.Lent.{IsLentTo}
-use Rattle.tbl_live.specs.Seats.{SeatView, IsSame}
+use Rattle.tbl_live.specs.Seats.{ServiceView, SeatView, IsSame}
 use Rattle.tbl_live.specs.ServedView.{ServedView}
 use Rattle.tbl_live.specs.declared.receipts.Receipt.{Receipt}
 use Rattle.tbl_live.specs.declared.receipts.CallFault.{CallFault}
 use Rattle.tbl_live.specs.declared.receipts.CallFault.TheVariants.{Ended, Full, Step, Memory}
+
+-- Before a seat's holder calls.
+pub record MayCall {B C : Type 0} (service : ServiceView B C) (seat : SeatView B C) (request : Request) (out : Buffer) : Type 0 where
+  -- the seat is of this service
+  pub own : seat.of ≡ service.of
+  -- the request may come from its actor
+  pub fits : Fits seat.actor request
+  -- there is room for the longest reply
+  pub room : reply_limit ≤ out.spare
 
 -- the receipt of a call of this actor
 abbrev pub receipt_for : Actor → Call → Receipt
@@ -52,11 +65,12 @@ pub record GoesOn {B C : Type 0} (old new : SeatView B C) : Type 0 where
   pub met : (fault : StepFault) → old.met ≡ Some fault → new.met ≡ Some fault
   pub pins : (pin : Pin) → IsLentTo old pin → IsLentTo new pin
 
--- the seat is still of its service and its actor, it goes on, and this is what its call gave
-pub record Says {B C : Type 0} (bound : Bound) (old new : SeatView B C) (request : Request) (bytes after : List ℕ) (result : Result Receipt CallFault) : Type 0 where
+-- the seat is still of its service and its actor, it goes on, this is what its call gave, and the caller's buffer has lost no room
+pub record Says {B C : Type 0} (bound : Bound) (old new : SeatView B C) (request : Request) (out after : Buffer) (result : Result Receipt CallFault) : Type 0 where
   pub same : IsSame old new
-  pub told : Told bound old new request bytes after result
+  pub told : Told bound old new request out.list after.list result
   pub goes_on : GoesOn old new
+  pub room : KeepsRoom out after
 
 -- so it is if no call was made
 pub record CallsNothing {B C : Type 0} (old new : SeatView B C) : Type 0 where

@@ -1,5 +1,5 @@
 -- Seats: what each is seen as, and what holds of those of one service.
-use Rattle.std.specs.Prelude.{◌≡◌, ℕ, ◌+◌, ◌≤◌, List, [], ◌∷◌, length, Option, Some, None}
+use Rattle.std.specs.Prelude.{◌≡◌, ℕ, ◌+◌, ◌<◌, ◌≤◌, List, [], ◌∷◌, length, replicate, Option, Some, None}
 use mathlib.Core.Option.{some}
 use lib.ListN.{get_elem?}
 use Rattle.atomic_table.specs.Seated.{TableId}
@@ -12,6 +12,7 @@ use Rattle.tbl_core.specs.declared.service.StepFault.{StepFault}
 use Rattle.turn_lock.specs.Turns.{Idle}
 use Rattle.turn_lock.specs.declared.rule.View.{View}
 use Rattle.tbl_live.specs.Calls.{Call, own}
+use Rattle.tbl_live.specs.Places.{Place}
 use Rattle.tbl_live.specs.ServedView.{ServedView, HasEnded}
 
 -- a service: which one it is, and the core that it was opened over
@@ -56,6 +57,13 @@ pub record IsOf {B C : Type 0} (actor : ℕ) (last : ServedView B C) (seat : Sea
   pub calls : seat.calls ≡ own last.base actor last.core.entries
   pub tells : TellsLast seat.saw seat.met last
 
+-- the place of a seat of this service and this actor, by its number, once the seat is left
+pub record IsLeft {B C : Type 0} (of : TableId) (actor : ℕ) (seat : SeatView B C) (place : Place (ServedView B C)) : Type 0 where
+  pub own : place.table_id ≡ of
+  pub last : ServedView B C
+  pub idle : Idle place.me actor (last ∷ [])
+  pub one : IsOf actor last seat
+
 -- so it is of each of these, from this actor on
 abbrev pub AreOf : {B C : Type 0} → ℕ → List (ServedView B C) → List (SeatView B C) → Type 0
 AreOf {B} {C} from seen seats = (i : ℕ) (x : ServedView B C) (seat : SeatView B C) → get_elem? seen i ≡ some x → get_elem? seats (from + i) ≡ some seat → IsOf (from + i) x seat
@@ -97,7 +105,27 @@ pub record AreDealt {B C : Type 0} (of : TableId) (many : ℕ) (seats : List (Se
   pub count : length seats ≡ many
   pub each : (number : ℕ) (seat : SeatView B C) → get_elem? seats number ≡ some seat → IsOfActor of number seat × IsFresh seat
 
+-- The place of so many actors, from one on, before they are dealt seats, at a lock with this value.
+pub record MayDeal {B C : Type 0} (of : TableId) (first : ServedView B C) (place : Place (ServedView B C)) (from count : ℕ) : Type 0 where
+  -- it is at this lock
+  pub own : place.table_id ≡ of
+  -- each of them saw this value
+  pub idle : Idle place.me from (replicate count first)
+  -- there are such actors
+  pub some : 0 < count
+  pub within : from + count ≤ actor_count
+  -- no call was made, and no step answered a fault
+  pub base : first.base ≡ length first.core.entries
+  pub calm : first.fault ≡ None
+
 -- ---- at the end
+
+-- the place of all actors, each of whom saw its last value
+pub record AreGathered {B C : Type 0} (of : TableId) (seats : List (SeatView B C)) (place : Place (ServedView B C)) : Type 0 where
+  pub own : place.table_id ≡ of
+  pub idle : Idle place.me 0 place.me.0.seen
+  pub all : length place.me.0.seen ≡ actor_count
+  pub each : AreOf 0 place.me.0.seen seats
 
 -- What a seat says of this core: its calls are all that the history has of its actor from the place `base` on, it saw no more entries than
 -- there are, and a fault that it met is one that a step answered, after which the service has ended.

@@ -1,17 +1,14 @@
 //! What a service may be opened over.
 
-ghost use Rattle.std.specs.Prelude.{◌≡◌, ◌≢◌, ℕ, ◌<◌, Option, Some, None, Err, false, List, [], ◌∷◌, ◌++◌, length, ◌+◌, IfOk, IfSome, IfNone, OnOk, MatchOption};
+ghost use Rattle.std.specs.Prelude.{◌≡◌, ℕ, ◌<◌, List, [], ◌∷◌, ◌++◌, length, IfOk, IfSome, MatchOption};
 ghost use Rattle.tbl_kinds.specs.Records.{record_limit};
-ghost use Rattle.tbl_kinds.specs.Requests.{Fits};
 ghost use Rattle.tbl_kinds.specs.declared.entry.Entry.{Entry};
 ghost use Rattle.tbl_kinds.specs.declared.request.Request.{Request};
-ghost use Rattle.tbl_core.specs.Ended.{OnPlayed};
 ghost use Rattle.tbl_core.specs.Log.{IsSmall};
-ghost use Rattle.tbl_core.specs.Service.{CoreView, AddsOne, IsOfPin, PinsOnward};
-ghost use Rattle.tbl_history.specs.Serving.{Continues};
+ghost use Rattle.tbl_core.specs.Service.{CoreView, IsOfPin};
 ghost use Rattle.tbl_live.specs.Bounds.{Bound, core_bound};
-ghost use Rattle.tbl_kinds.specs.Numbers.{piece};
-ghost use Rattle.tbl_live.specs.Lent.{IsTaken, LendsNow, StepGives};
+ghost use Rattle.tbl_live.specs.Cores.{TakesInside, asked, MayPlay, PlaysOne};
+ghost use Rattle.tbl_live.specs.Lent.{LendsNow};
 
 use lent_images::slice_of;
 use std::alloc::Global;
@@ -41,9 +38,7 @@ impl<'a> Taken<'a> {
         offset: u32,
         len: u32,
     ) -> Result<Option<Taken<'a>>, Memory>
-        ensures pin { IfOk result (λ ahead. IfSome ahead (λ taken. taken.pin.now ≡ pin.now)) }
-        ensures slice { IfOk result (λ ahead. IfSome ahead (λ taken. taken.slice.list ≡ piece offset len pin.now.bytes)) }
-        ensures outside { IfOk result (λ ahead. IfNone ahead (length pin.now.bytes < offset + len)) }
+        ensures takes { IfOk result (TakesInside pin.now offset len) }
     {
         match slice_of(alloc, pin, offset, len)? {
             Some(slice) => Ok(Some(Taken { pin, slice })),
@@ -80,17 +75,8 @@ pub trait ServiceCore<B: Bank, C: Validator>: Drop {
         request: Request,
         taken: Option<Taken<'_>>,
     ) -> Result<(), StepFault>
-        requires fits { Fits actor request }
-        requires live { (core self.old).state.ended ≡ false }
-        requires room { may_play self.old request }
-        requires taken { IfSome taken (λ taken. IsTaken taken.pin.now taken.slice.list request (core self.old)) }
-        // Over any bank: what was taken is what is answered, or the Read is refused.
-        ensures lent { IfSome taken.entry (λ taken. StepGives taken.pin.now taken.slice (core self.old) (core self.new) result) }
-        ensures adds { OnPlayed result (AddsOne B.Bank (core self.old) (core self.new) actor request result) }
-        ensures continues { OnPlayed result (Continues B.Bank C.verdict (core self.old) (core self.new)) }
-        ensures pins { OnPlayed result (PinsOnward (core self.old) (core self.new)) }
-        ensures live { OnOk result ((core self.new).state.ended ≡ false) }
-        ensures err { result ≡ Err StepFault.Memory → core self.new ≡ core self.old };
+        requires { MayPlay (may_play self.old request) (core self.old) (asked actor request taken) }
+        ensures { PlaysOne B.Bank C.verdict (asked actor request taken.entry) (core self.old) (core self.new) result };
 
     /// The entry of the request that was played last.
     fn last(&self) -> &Entry

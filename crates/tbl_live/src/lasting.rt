@@ -1,23 +1,10 @@
 //! A core that keeps no history.
 
-ghost use Rattle.std.specs.Prelude.{◌≡◌, ℕ, ◌^◌, ◌↔◌, IsTrue, ◌<◌, ◌≤◌, false, Option, Some, None, Ok, Err, List, [], ◌∷◌, ◌++◌, length, IfOk, IfErr, IfSome, OnOk};
+ghost use Rattle.std.specs.Prelude.{◌≡◌, ℕ, ◌^◌, ◌↔◌, IsTrue, ◌≤◌, Some, Err, [], ◌∷◌, ◌++◌, IfOk, IfErr};
 ghost use Rattle.tbl_kinds.specs.Places.{bank_size};
-ghost use Rattle.tbl_model.specs.State.{first_state};
-ghost use Rattle.tbl_outside.specs.Bank.{LeavesOnly};
-ghost use Rattle.tbl_outside.specs.Counts.{Still};
-ghost use Rattle.cds_layout.specs.Images.{store_of};
-ghost use Rattle.cds_store.specs.Moments.{ShowsIn};
-ghost use Rattle.validation.specs.Kits.{owners};
-ghost use Rattle.tbl_kinds.specs.Requests.{Fits};
-ghost use Rattle.tbl_core.specs.Answers.{IsBegun};
-ghost use Rattle.tbl_core.specs.Ended.{OnPlayed};
-ghost use Rattle.tbl_core.specs.Engine.{Steps, MayStillPin};
-ghost use Rattle.tbl_core.specs.Lent.{StillPins, GivesLent};
-ghost use Rattle.tbl_core.specs.Pins.{IsSliceOf};
-ghost use Rattle.tbl_core.specs.Service.{AskedBelow, FollowsFrom, StartCounted, HasRoom};
-ghost use Rattle.tbl_core.specs.declared.service.StartFault.TheVariants.{Memory as NoMemory};
+ghost use Rattle.tbl_core.specs.Service.{AskedBelow, HasRoom};
 ghost use Rattle.tbl_live.specs.Bounds.{lasting_bound};
-ghost use Rattle.tbl_live.specs.Lasting.{core_in};
+ghost use Rattle.tbl_live.specs.Lasting.{core_in, Starts, HandsBack, MayPlayOn, PlaysOn};
 
 use crate::cores::{ServiceCore, Taken};
 use http_server::Log;
@@ -61,19 +48,8 @@ impl<B: Bank, C: Validator> Lasting<B, C> {
     ) -> Result<Lasting<B, C>, Back<StartFault, B>>
         requires room { bank_size ≤ B.size bank }
         requires asked { AskedBelow C.asked (2 ^ 62) kit }
-        ensures stands { IfOk result (λ it. FollowsFrom B.Bank (first_state (store_of (B.now bank)) (owners kit) admit) (core_in it)) }
-        ensures kit { IfOk result (λ it. (core_in it).state.kit ≡ kit) }
-        ensures admit { IfOk result (λ it. (core_in it).state.admit ≡ admit) }
-        ensures empty { IfOk result (λ it. (core_in it).entries ≡ []) }
-        ensures live { IfOk result (λ it. (core_in it).state.ended ≡ false) }
-        ensures counts { IfOk result (λ it. Still B.faults B.stops bank (core_in it).state.store.bank) }
-        // A reset at any moment in it leaves the blocks that the bank showed, also if there is no core then.
-        ensures crash { IfOk result (λ it. B.tells_moments → LeavesOnly B.clock B.left_since bank (core_in it).state.store.bank (ShowsIn (store_of (B.now bank)))) }
-        ensures crash_err { IfErr result (λ back. B.tells_moments → LeavesOnly B.clock B.left_since bank back.bank (ShowsIn (store_of (B.now bank)))) }
-        ensures cause { IfErr result (λ back. StartCounted B.Bank bank back.bank back.cause) }
-        // Out of memory comes before anything is asked of the bank.
-        ensures memory { IfErr result (λ back. back.cause ≡ NoMemory → back.bank ≡ bank) }
-        ensures room_err { IfErr result (λ back. bank_size ≤ B.size back.bank) }
+        ensures starts { IfOk result (λ it. Starts B.Bank bank kit admit (core_in it)) }
+        ensures err { IfErr result (HandsBack B.Bank bank) }
     {
         match Engine::start(alloc, bank, kit, admit) {
             Ok(engine) => Ok(Lasting {
@@ -100,15 +76,8 @@ fn play_on<B: Bank, C: Validator>(
     entry: &mut Entry,
     taken: Option<Taken<'_>>,
 ) -> Result<(), StepFault>
-    requires begun { IsBegun entry.old }
-    requires fits { Fits entry.old.actor entry.old.request }
-    requires live { engine.old.state.ended ≡ false }
-    requires room { HasRoom engine.old entry.old.request }
-    requires taken { IfSome taken (λ taken. MayStillPin taken.pin.now engine.old × IsSliceOf taken.pin.now entry.old.request taken.slice.list) }
-    ensures lent { IfSome taken.entry (λ taken. StillPins taken.pin.now engine.old.gets → (result ≡ Ok tt) × GivesLent engine.old.state taken.slice entry.new) }
-    ensures steps { OnPlayed result (Steps B.Bank C.Validator engine.old engine.new (entry.old.actor, entry.old.request) entry.new result) }
-    ensures live { OnOk result (engine.new.state.ended ≡ false) }
-    ensures err { result ≡ Err StepFault.Memory → engine.new ≡ engine.old }
+    requires { MayPlayOn engine.old entry.old taken }
+    ensures { PlaysOn B.Bank C.Validator taken.entry (engine.old, entry.old) (engine.new, entry.new) result }
 {
     match taken {
         None => engine.play(entry),

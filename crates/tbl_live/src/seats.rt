@@ -1,11 +1,9 @@
 //! Seats at a service, one for each actor.
 
-ghost use Rattle.std.specs.Prelude.{◌≡◌, ℕ, [], ◌∷◌, None};
+ghost use Rattle.std.specs.Prelude.{◌≡◌, ℕ, None};
 ghost use Rattle.tbl_kinds.specs.Records.{actor_number};
 ghost use Rattle.tbl_session.specs.Actors.{actor_of};
-ghost use Rattle.turn_lock.specs.Turns.{Idle};
-ghost use Rattle.tbl_live.specs.Seats.{IsSeat, IsOf, seat_of};
-ghost use Rattle.tbl_live.specs.ServedView.{ServedView};
+ghost use Rattle.tbl_live.specs.Seats.{IsSeat, IsLeft, seat_of};
 
 use crate::cores::ServiceCore;
 use crate::served::Served;
@@ -69,8 +67,7 @@ impl<B: Bank, C: Validator, K: ServiceCore<B, C>> Seat<B, C, K> {
 
     /// Its place, with what its actor saw last.
     pub(crate) fn leave(self) -> Place<Served<B, C, K>>
-        ensures own { result.table_id ≡ self.of }
-        ensures last { (last : ServedView B C) × Idle result.me (actor_number self.actor) (last ∷ []) × IsOf (actor_number self.actor) last self }
+        ensures { IsLeft self.of (actor_number self.actor) self result }
     {
         let Seat { place, .. } = self;
         place

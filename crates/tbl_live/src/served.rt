@@ -1,17 +1,13 @@
 //! What the lock holds, and one call under it.
 
-ghost use Rattle.std.specs.Prelude.{◌≡◌, ℕ, ◌+◌, ◌<◌, ◌≤◌, Some, None, Ok, Err, false, List, [], ◌∷◌, ◌++◌, length, MatchOption, IfOk, IfErr, IfSome, OnOk};
-ghost use Rattle.tbl_kinds.specs.Records.{actor_number, record_limit};
-ghost use Rattle.tbl_kinds.specs.Requests.{Fits};
-ghost use Rattle.tbl_kinds.specs.declared.entry.Entry.{Entry};
+ghost use Rattle.std.specs.Prelude.{◌≡◌, ℕ, ◌<◌, ◌≤◌, None, false, length, MatchOption, IfOk, IfErr, IfSome};
 ghost use Rattle.request_effects.specs.Effects.{reply_limit};
 ghost use Rattle.tbl_core.specs.Ended.{OnPlayed};
-ghost use Rattle.tbl_core.specs.Service.{AddsOne, IsOfPin, PinsOnward};
-ghost use Rattle.tbl_history.specs.Serving.{Continues};
+ghost use Rattle.tbl_core.specs.Service.{IsOfPin};
 ghost use Rattle.tbl_live.specs.ServedView.{IsServed, served_view};
-ghost use Rattle.tbl_live.specs.Moves.{Moves};
-ghost use Rattle.tbl_live.specs.Answers.{kept_of, MayStep, IsRefusal, Answers, TakesLast, IsOutcome, with_later, HasRoomFor};
-ghost use Rattle.tbl_live.specs.Lent.{IsTaken, LendsNow, CallGives};
+ghost use Rattle.tbl_live.specs.Cores.{asked};
+ghost use Rattle.tbl_live.specs.Answers.{kept_of, MayStep, IsRefusal, with_later, HasRoomFor, KeepsRoom, Appends, GivesLast, GivesOutcome, MayAnswer, Answered};
+ghost use Rattle.tbl_live.specs.Lent.{LendsNow};
 
 use crate::cores::{ServiceCore, Taken};
 use crate::receipts::{CallFault, Receipt};
@@ -59,9 +55,7 @@ impl<B: Bank, C: Validator, K: ServiceCore<B, C>> Served<B, C, K> {
     /// A live core, as it is now. An Err means out of memory, with the core.
     pub(crate) fn open(alloc: Global, core: K) -> Result<Served<B, C, K>, K>
         requires live { (K.core core).state.ended ≡ false }
-        ensures core { IfOk result (λ served. served.core ≡ K.core core) }
-        ensures fault { IfOk result (λ served. served.fault ≡ None) }
-        ensures base { IfOk result (λ served. served.base ≡ length (K.core core).entries) }
+        ensures opened { IfOk result (λ served. served ≡ served_view (K.core core) None (length (K.core core).entries)) }
         ensures err { IfErr result (λ back. back ≡ core) }
     {
         let base = core.count();
@@ -116,14 +110,8 @@ impl<B: Bank, C: Validator, K: ServiceCore<B, C>> Served<B, C, K> {
         taken: Option<Taken<'_>>,
         out: &mut Bytes,
     ) -> (Result<Receipt, CallFault>, Option<Bytes>)
-        requires fits { Fits actor request }
-        requires taken { IfSome taken (λ taken. IsTaken taken.pin.now taken.slice.list request self.old.core) }
-        requires room { reply_limit ≤ out.old.spare }
-        ensures lent { IfSome taken.entry (λ taken. CallGives (record { pin = taken.pin.now; slice = taken.slice; result = result.0 }) self.old.core self.new.core) }
-        ensures moves { Moves B.Bank C.verdict self.old (actor_number actor) self.new }
-        ensures answers { Answers K.bound self.old self.new actor request (out.old.list, with_later out.new.list result.1) result.0 }
-        ensures later { HasRoomFor result.1 out.new }
-        ensures room { out.old.spare + length out.old.list ≤ out.new.spare + length out.new.list }
+        requires { MayAnswer self.old.core (asked actor request taken) out.old }
+        ensures { Answered B.Bank C.verdict K.bound (asked actor request taken.entry) (self.old, out.old) (self.new, out.new) result }
     {
         answer_fields::<B, C, K>(
             self.core.as_mut(),
@@ -157,10 +145,8 @@ fn refusal<B: Bank, C: Validator, K: ServiceCore<B, C>>(
 
 /// Appends the bytes of a reply if they are few, and else gives a further owner of them, if they can have one.
 fn append_or_own(reply: &Bytes, out: &mut Bytes) -> Option<Bytes>
-    requires room { length reply.now.list ≤ out.old.spare }
-    ensures bytes { with_later out.new.list result ≡ out.old.list ++ reply.now.list }
-    ensures later { HasRoomFor result out.new }
-    ensures room { out.old.spare + length out.old.list ≤ out.new.spare + length out.new.list }
+    requires { length reply.now.list ≤ out.old.spare }
+    ensures { Appends out.old out.new reply.now.list result }
 {
     let bytes = reply.bytes();
     if bytes.len() >= LATER {
@@ -174,9 +160,9 @@ fn append_or_own(reply: &Bytes, out: &mut Bytes) -> Option<Bytes>
 
 /// Appends what was left to be appended.
 pub(crate) fn append_later(later: Option<Bytes>, out: &mut Bytes)
-    requires room { HasRoomFor later out.old }
+    requires { HasRoomFor later out.old }
     ensures bytes { out.new.list ≡ with_later out.old.list later }
-    ensures room { out.old.spare + length out.old.list ≤ out.new.spare + length out.new.list }
+    ensures room { KeepsRoom out.old out.new }
 {
     if let Some(bytes) = later {
         out.append(bytes.bytes());
@@ -190,9 +176,7 @@ fn take_last<B: Bank, C: Validator, K: ServiceCore<B, C>>(
 ) -> (Receipt, Option<Bytes>)
     requires some { 0 < length (K.core core.now).entries }
     requires room { reply_limit ≤ out.old.spare }
-    ensures last { TakesLast (K.core core.now).entries result.0 out.old.list (with_later out.new.list result.1) }
-    ensures later { HasRoomFor result.1 out.new }
-    ensures room { out.old.spare + length out.old.list ≤ out.new.spare + length out.new.list }
+    ensures { GivesLast (K.core core.now).entries out.old out.new result }
 {
     let place = core.count() - 1;
     let entry = core.last();
@@ -214,9 +198,7 @@ fn outcome<B: Bank, C: Validator, K: ServiceCore<B, C>>(
 ) -> (Result<Receipt, CallFault>, Option<Bytes>)
     requires some { OnPlayed done (0 < length (K.core core.now).entries) }
     requires room { reply_limit ≤ out.old.spare }
-    ensures outcome { IsOutcome (K.core core.now).entries done out.old.list (with_later out.new.list result.1) result.0 }
-    ensures later { HasRoomFor result.1 out.new }
-    ensures room { out.old.spare + length out.old.list ≤ out.new.spare + length out.new.list }
+    ensures { GivesOutcome (K.core core.now).entries done out.old out.new result }
 {
     match done {
         Ok(()) => {
@@ -257,16 +239,10 @@ fn answer_fields<B: Bank, C: Validator, K: ServiceCore<B, C>>(
     out: &mut Bytes,
 ) -> (Result<Receipt, CallFault>, Option<Bytes>)
     requires served { IsServed K.bound.limit (served_view (K.core core.old) fault.old base) }
-    requires fits { Fits actor request }
-    requires taken { IfSome taken (λ taken. IsTaken taken.pin.now taken.slice.list request (K.core core.old)) }
-    requires room { reply_limit ≤ out.old.spare }
-    ensures lent { IfSome taken.entry (λ taken. CallGives (record { pin = taken.pin.now; slice = taken.slice; result = result.0 }) (K.core core.old) (K.core core.new)) }
+    requires call { MayAnswer (K.core core.old) (asked actor request taken) out.old }
     ensures served { IsServed K.bound.limit (served_view (K.core core.new) fault.new base) }
-    ensures moves { Moves B.Bank C.verdict (served_view (K.core core.old) fault.old base) (actor_number actor) (served_view (K.core core.new) fault.new base) }
-    ensures answers { Answers K.bound (served_view (K.core core.old) fault.old base) (served_view (K.core core.new) fault.new base) actor request
-        (out.old.list, with_later out.new.list result.1) result.0 }
-    ensures later { HasRoomFor result.1 out.new }
-    ensures room { out.old.spare + length out.old.list ≤ out.new.spare + length out.new.list }
+    ensures answered { Answered B.Bank C.verdict K.bound (asked actor request taken.entry) (served_view (K.core core.old) fault.old base, out.old)
+        (served_view (K.core core.new) fault.new base, out.new) result }
 {
     if let Some(cause) = refusal::<B, C, K>(core, *fault, &request) {
         return (Err(cause), None);

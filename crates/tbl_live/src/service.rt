@@ -1,21 +1,11 @@
 //! The service that a program's threads share.
 
-ghost use Rattle.std.specs.Prelude.{◌≡◌, ℕ, ◌+◌, ◌<◌, ◌≤◌, false, None, List, [], ◌∷◌, length, replicate, IfOk, IfErr, IfSome, vec_capacity};
-ghost use Rattle.tbl_core.specs.Pins.{IsSliceOf};
-ghost use Rattle.tbl_kinds.specs.Requests.{Fits};
+ghost use Rattle.std.specs.Prelude.{◌≡◌, ℕ, ◌+◌, ◌≤◌, false, ◌∷◌, IfOk, IfErr, IfSome, vec_capacity};
 ghost use Rattle.tbl_kinds.specs.declared.request.Request.TheVariants as ask;
-ghost use Rattle.request_effects.specs.Effects.{reply_limit};
-ghost use Rattle.tbl_session.specs.Actors.{actor_count};
-ghost use Rattle.tbl_session.specs.Openings.{Opening};
-ghost use Rattle.tbl_session.specs.Served.{IsServed};
-ghost use Rattle.tbl_history.specs.Serving.{Serves};
-ghost use Rattle.turn_lock.specs.Turns.{Idle};
-ghost use Rattle.tbl_live.specs.Moves.{Extends};
-ghost use Rattle.tbl_live.specs.Lent.{IsLentTo, LendsTo, IsGivenTo};
-ghost use Rattle.tbl_live.specs.Saying.{Says, CallsNothing};
-ghost use Rattle.tbl_live.specs.Seats.{SeatView, AreSeats, AreFresh, AreDealt, AreOf, TellsOf};
-ghost use mathlib.Core.Option.{some};
-ghost use lib.ListN.{get_elem?};
+ghost use Rattle.tbl_live.specs.Lent.{IsLentTo, LendsTo, IsTakenFor, IsGivenTo};
+ghost use Rattle.tbl_live.specs.Saying.{MayCall, Says, CallsNothing};
+ghost use Rattle.tbl_live.specs.Seats.{AreSeats, AreDealt, AreGathered, MayDeal};
+ghost use Rattle.tbl_live.specs.Service.{HasSeats, seats_of, Opens, Closes};
 
 use crate::cores::{ServiceCore, Taken};
 use crate::receipts::{CallFault, Receipt};
@@ -57,19 +47,19 @@ impl<B: Bank, C: Validator, K: ServiceCore<B, C>> Service<B, C, K> {
     /// A service over a core, and a seat for each actor. An Err means out of memory, with the core as it was.
     pub fn open(alloc: Global, core: K) -> Result<(Service<B, C, K>, Seats<B, C, K>), K>
         requires live { (K.core core).state.ended ≡ false }
-        ensures opened { IfOk result (λ made. made.0.opened ≡ K.core core) }
-        ensures seats { IfOk result (λ made. AreSeats made.0.of (made.1.ground ∷ made.1.apps.items)) }
-        ensures fresh { IfOk result (λ made. AreFresh (made.1.ground ∷ made.1.apps.items)) }
+        ensures opened { IfOk result (λ made. Opens (K.core core) made.0 made.1) }
         ensures err { IfErr result (λ back. K.core back ≡ K.core core) }
     {
-        let Ok(seats) = Vec::with_capacity(alloc, usize::from(ACTOR_COUNT)) else {
+        let Ok(mut seats) = Vec::with_capacity(alloc, usize::from(ACTOR_COUNT)) else {
             return Err(core);
         };
         let served = Served::open(alloc, core)?;
         match TurnLock::make(alloc, served) {
             Ok((lock, place)) => {
-                let seats = deal_all(&lock, place, seats);
-                Ok((Service { lock }, seats))
+                deal(&lock, place, 0, ACTOR_COUNT, &mut seats);
+                let ground = seats.remove(0);
+                let apps = seats;
+                Ok((Service { lock }, Seats { ground, apps }))
             }
             Err(served) => Err(served.end()),
         }
@@ -84,11 +74,8 @@ impl<B: Bank, C: Validator, K: ServiceCore<B, C>> Service<B, C, K> {
         request: Request,
         out: &mut Bytes,
     ) -> Result<Receipt, CallFault>
-        requires own { seat.old.of ≡ self.now.of }
-        requires fits { Fits seat.old.actor request }
-        requires room { reply_limit ≤ out.old.spare }
-        ensures says { Says K.bound seat.old seat.new request out.old.list out.new.list result }
-        ensures room { out.old.spare + length out.old.list ≤ out.new.spare + length out.new.list }
+        requires { MayCall self.now seat.old request out.old }
+        ensures says { Says K.bound seat.old seat.new request out.old out.new result }
     {
         self.turn(rt, seat, request, None, out)
     }
@@ -102,7 +89,7 @@ impl<B: Bank, C: Validator, K: ServiceCore<B, C>> Service<B, C, K> {
         seat: &mut Seat<B, C, K>,
         handle: u16,
     ) -> Result<Option<Pin>, Memory>
-        requires own { seat.old.of ≡ self.now.of }
+        requires { seat.old.of ≡ self.now.of }
         ensures stays { CallsNothing seat.old seat.new }
         ensures lent { IfOk result (LendsTo handle seat.new) }
         ensures pin { IfOk result (λ lent. IfSome lent (IsLentTo seat.new)) }
@@ -128,12 +115,9 @@ impl<B: Bank, C: Validator, K: ServiceCore<B, C>> Service<B, C, K> {
         len: u32,
         out: &mut Bytes,
     ) -> Result<Receipt, CallFault>
-        requires own { seat.old.of ≡ self.now.of }
+        requires call { MayCall self.now seat.old (ask.Read pin.now.handle offset len) out.old }
         requires lent { IsLentTo seat.old pin.now }
-        requires fits { Fits seat.old.actor (ask.Read pin.now.handle offset len) }
-        requires room { reply_limit ≤ out.old.spare }
-        ensures says { Says K.bound seat.old seat.new (ask.Read pin.now.handle offset len) out.old.list out.new.list result }
-        ensures room { out.old.spare + length out.old.list ≤ out.new.spare + length out.new.list }
+        ensures says { Says K.bound seat.old seat.new (ask.Read pin.now.handle offset len) out.old out.new result }
     {
         let request = Request::Read {
             handle: pin.handle(),
@@ -156,14 +140,11 @@ impl<B: Bank, C: Validator, K: ServiceCore<B, C>> Service<B, C, K> {
         taken: Taken<'_>,
         out: &mut Bytes,
     ) -> Result<Receipt, CallFault>
-        requires own { seat.old.of ≡ self.now.of }
-        requires fits { Fits seat.old.actor request }
-        requires taken { IsLentTo seat.old taken.pin.now × IsSliceOf taken.pin.now request taken.slice.list }
-        requires room { reply_limit ≤ out.old.spare }
-        ensures says { Says K.bound seat.old seat.new request out.old.list out.new.list result }
+        requires call { MayCall self.now seat.old request out.old }
+        requires taken { IsTakenFor seat.old request taken }
+        ensures says { Says K.bound seat.old seat.new request out.old out.new result }
         // Over any bank: what was taken is what is answered, or the Read is refused.
-        ensures lent { IsGivenTo B.Bank C.verdict (record { pin = taken.entry.pin.now; slice = taken.entry.slice; result = result }) seat.old seat.new }
-        ensures room { out.old.spare + length out.old.list ≤ out.new.spare + length out.new.list }
+        ensures lent { IsGivenTo B.Bank C.verdict result seat.old seat.new taken.entry }
     {
         self.turn(rt, seat, request, Some(taken), out)
     }
@@ -177,13 +158,10 @@ impl<B: Bank, C: Validator, K: ServiceCore<B, C>> Service<B, C, K> {
         taken: Option<Taken<'_>>,
         out: &mut Bytes,
     ) -> Result<Receipt, CallFault>
-        requires own { seat.old.of ≡ self.now.of }
-        requires fits { Fits seat.old.actor request }
-        requires taken { IfSome taken (λ taken. IsLentTo seat.old taken.pin.now × IsSliceOf taken.pin.now request taken.slice.list) }
-        requires room { reply_limit ≤ out.old.spare }
-        ensures says { Says K.bound seat.old seat.new request out.old.list out.new.list result }
-        ensures lent { IfSome taken.entry (λ taken. IsGivenTo B.Bank C.verdict (record { pin = taken.pin.now; slice = taken.slice; result = result }) seat.old seat.new) }
-        ensures room { out.old.spare + length out.old.list ≤ out.new.spare + length out.new.list }
+        requires call { MayCall self.now seat.old request out.old }
+        requires taken { IfSome taken (IsTakenFor seat.old request) }
+        ensures says { Says K.bound seat.old seat.new request out.old out.new result }
+        ensures lent { IfSome taken.entry (IsGivenTo B.Bank C.verdict result seat.old seat.new) }
     {
         let actor = seat.actor;
         let mut served = self.lock.take(rt, &mut seat.place);
@@ -199,41 +177,12 @@ impl<B: Bank, C: Validator, K: ServiceCore<B, C>> Service<B, C, K> {
     /// The core with all calls in its history, once all seats are back: the history that `Core` keeps, and that of `Lasting`, which nobody
     /// keeps. It waits for nobody.
     pub fn close(self, seats: Seats<B, C, K>) -> K
-        requires seats { AreSeats self.of (seats.ground ∷ seats.apps.items) }
-        // Whatever opening the core represented as the service opened, it still represents.
-        ensures serves { (o : Opening B C) → Serves B.Bank C.verdict o self.opened → Serves B.Bank C.verdict o (K.core result) }
-        // So all that a session promises of its history holds of this one.
-        ensures served { (o : Opening B C) → Serves B.Bank C.verdict o self.opened → IsServed B.Bank C.verdict o (K.core result).state.store.bank (K.core result).entries }
-        ensures extends { Extends self.opened.entries (K.core result).entries }
-        ensures few { length self.opened.entries ≤ K.bound.limit → length (K.core result).entries ≤ K.bound.limit }
-        // Each seat's calls are all that the history has of its actor since.
-        ensures own { (number : ℕ) (seat : SeatView B C) → get_elem? (seats.ground ∷ seats.apps.items) number ≡ some seat → TellsOf (length self.opened.entries) (K.core result) seat }
+        requires { HasSeats self seats }
+        ensures closes { Closes B.Bank C.verdict K.bound.limit self.opened (seats_of seats) (K.core result) }
     {
         let Service { lock } = self;
         let place = gather(&lock, seats.ground, seats.apps);
         lock.close(place).end()
-    }
-}
-
-/// Gives each actor a seat of its own.
-fn deal_all<B: Bank, C: Validator, K: ServiceCore<B, C>>(
-    lock: &TurnLock<Served<B, C, K>>,
-    place: Place<Served<B, C, K>>,
-    mut seats: Vec<Seat<B, C, K>>,
-) -> Seats<B, C, K>
-    requires own { place.table_id ≡ lock.now.table.shared.table_id }
-    requires all { Idle place.me 0 (replicate actor_count lock.now.table.shared.key.value) }
-    requires first { lock.now.table.shared.key.value.base ≡ length lock.now.table.shared.key.value.core.entries }
-    requires calm { lock.now.table.shared.key.value.fault ≡ None }
-    requires empty { seats.items ≡ [] }
-    requires room { actor_count ≤ vec_capacity seats }
-    ensures { AreDealt lock.now.table.shared.table_id actor_count (result.ground ∷ result.apps.items) }
-{
-    deal(lock, place, 0, ACTOR_COUNT, &mut seats);
-    let ground = seats.remove(0);
-    Seats {
-        ground,
-        apps: seats,
     }
 }
 
@@ -245,12 +194,7 @@ fn deal<B: Bank, C: Validator, K: ServiceCore<B, C>>(
     count: u8,
     seats: &mut Vec<Seat<B, C, K>>,
 )
-    requires some { 0 < count }
-    requires within { from + count ≤ actor_count }
-    requires own { place.table_id ≡ lock.now.table.shared.table_id }
-    requires all { Idle place.me from (replicate count lock.now.table.shared.key.value) }
-    requires first { lock.now.table.shared.key.value.base ≡ length lock.now.table.shared.key.value.core.entries }
-    requires calm { lock.now.table.shared.key.value.fault ≡ None }
+    requires place { MayDeal lock.now.table.shared.table_id lock.now.table.shared.key.value place from count }
     requires before { AreDealt lock.now.table.shared.table_id from seats.old.items }
     requires room { from + count ≤ vec_capacity seats.old }
     ensures dealt { AreDealt lock.now.table.shared.table_id (from + count) seats.new.items }
@@ -272,10 +216,8 @@ fn gather<B: Bank, C: Validator, K: ServiceCore<B, C>>(
     ground: Seat<B, C, K>,
     mut apps: Vec<Seat<B, C, K>>,
 ) -> Place<Served<B, C, K>>
-    requires seats { AreSeats lock.now.table.shared.table_id (ground ∷ apps.items) }
-    ensures own { result.table_id ≡ lock.now.table.shared.table_id }
-    ensures all { Idle result.me 0 result.me.0.seen × (length result.me.0.seen ≡ actor_count) }
-    ensures each { AreOf 0 result.me.0.seen (ground ∷ apps.items) }
+    requires { AreSeats lock.now.table.shared.table_id (ground ∷ apps.items) }
+    ensures { AreGathered lock.now.table.shared.table_id (ground ∷ apps.items) result }
 {
     let Some(last) = apps.pop() else {
         unreachable!()
